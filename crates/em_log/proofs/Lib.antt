@@ -1,0 +1,5 @@
+pub mod Steps
+pub mod Asked
+pub mod Choices
+pub mod Follows
+pub mod Inversion
