@@ -3,3 +3,4 @@ pub mod Asked
 pub mod Choices
 pub mod Follows
 pub mod Inversion
+pub mod Moments
