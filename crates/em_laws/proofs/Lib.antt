@@ -1,3 +1,6 @@
 pub mod Cores
 pub mod Served
 pub mod Holders
+pub mod Acks
+pub mod Begun
+pub mod Steps
