@@ -4,3 +4,4 @@ pub mod Holders
 pub mod Acks
 pub mod Begun
 pub mod Steps
+pub mod Dones
