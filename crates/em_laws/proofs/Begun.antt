@@ -110,7 +110,7 @@ none-pending past aims n lt none p =
 
 -- at most one
 
-pub Alone : Past → (Begun → Bool) → Type 0
+abbrev pub Alone : Past → (Begun → Bool) → Type 0
 Alone past aims = (n m : ℕ) → IsPending past aims n → IsPending past aims m → n ≡ m
 
 data PendingAfter (past : Past) (aims : Begun → Bool) (n d : ℕ) (w : What) : Type 0 where
@@ -151,7 +151,6 @@ guards-group g k past c job notes (ModifyJob i m asked is none fits) h =
 
 alone-after : (k : Declarations) (l : Limits) (past : Past) (d : ℕ) (w : What) (aims : Begun → Bool) → Guards aims → AllAllowed k l past → Moment k l past d w
     → Alone past aims → Alone (entry_by d w ∷ past) aims
-unfolding Alone
 alone-after k l past d w aims guards all m alone n i p q = by_both (pending-after past aims n d w p) (pending-after past aims i d w q)
   where
     none : (j : ℕ) (o : Operation) → w ≡ What.Begin (op_id j) o.job o.notes → aims o.job ≡ true → pending past aims ≡ None
@@ -171,7 +170,6 @@ alone-after k l past d w aims guards all m alone n i p q = by_both (pending-afte
 
 -- at most one operation with such an aim is pending
 pub alone : (k : Declarations) (l : Limits) (past : Past) (aims : Begun → Bool) → Guards aims → AllAllowed k l past → Alone past aims
-unfolding Alone
 alone k l [] aims guards all = λ n m p q. absurd (cc p.begun)
 alone k l (e ∷ past) aims guards all =
     alone-after k l past e.core.0 e.what aims guards all.1 (allowed-moment k l past e all.1 all.0) (alone k l past aims guards all.1)

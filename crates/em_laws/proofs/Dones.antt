@@ -30,7 +30,7 @@ pub data Finished (k : Declarations) (past : Past) (n : ℕ) : Type 0 where
       → (global_done past n ≡ Some false) ⊎ ((global_done past n ≡ Some true) × (all_acked k past n ≡ true)) → Finished k past n
   FinishedStop : (o : Operation) (x : EoId) → operation past n ≡ Some o → o.job ≡ Begun.Stop x → global_done past n ≡ Some true → Finished k past n
 
-pub AllFinished : Declarations → Past → Type 0
+abbrev pub AllFinished : Declarations → Past → Type 0
 AllFinished k past = (n : ℕ) (b : Bool) → done past n ≡ Some b → Finished k past n
 
 -- what stands of an operation as it is done: it was not done before
@@ -53,7 +53,6 @@ undone past n h = by_done (done past n) refl
 
 undone-change : (k : Declarations) (past : Past) (c n : ℕ) (o : Operation) (g : GroupId) (m : ℕ) → c < k.cores → AllFinished k past → operation past n ≡ Some o
     → o.job ≡ Begun.Modify g m → has (acked past n) c ≡ false → done past n ≡ None
-unfolding AllFinished
 undone-change k past c n o g m lt held is job un = undone past n (λ b h. by_finished (held n b h))
   where
     by_finished : Finished k past n → ⊥
@@ -63,7 +62,6 @@ undone-change k past c n o g m lt held is job un = undone past n (λ b h. by_fin
 
 undone-started : (k : Declarations) (past : Past) (c n : ℕ) (o : Operation) (x : EoId) → c < k.cores → AllFinished k past → operation past n ≡ Some o
     → o.job ≡ Begun.Start x → global_done past n ≡ Some true → has (acked past n) c ≡ false → done past n ≡ None
-unfolding AllFinished
 undone-started k past c n o x lt held is job global un = undone past n (λ b h. by_finished (held n b h))
   where
     by_finished : Finished k past n → ⊥
@@ -74,7 +72,6 @@ undone-started k past c n o x lt held is job global un = undone past n (λ b h. 
 
 undone-global : (k : Declarations) (past : Past) (n : ℕ) (o : Operation) → AllFinished k past → operation past n ≡ Some o
     → ((g : GroupId) (m : ℕ) → o.job ≡ Begun.Modify g m → ⊥) → global_done past n ≡ None → done past n ≡ None
-unfolding AllFinished
 undone-global k past n o held is other none = undone past n (λ b h. by_finished (held n b h))
   where
     by_finished : Finished k past n → ⊥
@@ -207,7 +204,6 @@ finished-now k past d op ok (CompletesStop o x is job un e global all) = Finishe
 
 next-finished : (k : Declarations) (l : Limits) (past : Past) (d : ℕ) (w : What) → AllAllowed k l past → Always (AllFinished k) past → Moment k l past d w
     → (n : ℕ) (b : Bool) → done (entry_by d w ∷ past) n ≡ Some b → Finished k (entry_by d w ∷ past) n
-unfolding AllFinished
 next-finished k l past d (What.Done op ok) all held m n b h = by_test (compared op.0 n) h
   where
     by_test : Compared op.0 n → done (entry_by d (What.Done op ok) ∷ past) n ≡ Some b → Finished k (entry_by d (What.Done op ok) ∷ past) n
@@ -216,11 +212,9 @@ next-finished k l past d (What.Done op ok) all held m n b h = by_test (compared 
 next-finished k l past d w all held m n b h = finished-kept k l past d w n all m ((always-here (AllFinished k) past held) n b h)
 
 none-finished : (k : Declarations) → AllFinished k []
-unfolding AllFinished
 none-finished k n b h = absurd (none-some b h)
 
 next-all-finished : (k : Declarations) (l : Limits) (past : Past) (d : ℕ) (w : What) → AllAllowed k l past → Always (AllFinished k) past → Moment k l past d w → AllFinished k (entry_by d w ∷ past)
-unfolding AllFinished
 next-all-finished k l past d w all held m n b h = next-finished k l past d w all held m n b h
 
 pub finished : (k : Declarations) (l : Limits) (past : Past) → AllAllowed k l past → Always (AllFinished k) past

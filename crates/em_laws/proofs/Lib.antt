@@ -5,3 +5,4 @@ pub mod Acks
 pub mod Begun
 pub mod Steps
 pub mod Dones
+pub mod Respects

@@ -20,7 +20,7 @@ use Rattle.em_log.proofs.Choices.{IsBetween}
 use Rattle.em_log.proofs.Steps.{Owes, OwesAck, OwesGlobalStart, OwesLocalStart, OwesLocalStop, OwesGlobalStop}
 use Rattle.em_log.proofs.Moments.{Moment, EnterMoment, EntersBoot, EntersStep, AckMoment, AckChange, AckStart, AckStop, GlobalDoneMoment, GlobalStartDone, GlobalStopDone, BeginMoment, allowed-moment}
 use Rattle.em_laws.proofs.Cores.{Compared, Same, Other, compared, if-own, none-some, some-inj}
-use Rattle.em_laws.proofs.Acks.{has-cons, acked-more, all-acked-has, all-acked-more, last-kept, last-all}
+use Rattle.em_laws.proofs.Acks.{AckedAfter, AckedBefore, AcksNow, acked-after, has-cons, acked-more, all-acked-has, all-acked-more, last-kept, last-all}
 use Rattle.em_laws.proofs.Begun.{begun-kept}
 
 -- what stands of an operation while core c is in a context of it
@@ -251,3 +251,48 @@ contexts k l (e ∷ past) all =
       steps = next-steps k l past e.core.0 e.what all.1 held m;
       untaken = next-untaken k l past e.core.0 e.what (always-here (Contexts k) past held) m;
     }, held)
+
+-- an acknowledgement is of an operation that has begun
+
+local_start-begun : (k : Declarations) (before : Past) (d : ℕ) (op : OpId) → InStep k before d (Body.LocalStart op) → (o : Operation) × (operation before op.0 ≡ Some o)
+local_start-begun k before d op (InBoot e) = absurd cc
+local_start-begun k before d op (InGlobalStart n o x e is job none core) = absurd cc
+local_start-begun k before d op (InLocalStart n o x e is job global un) =
+    let same : op.0 ≡ n = ap (λ (i : OpId). i.0) (cc) in (o, ap (operation before) same ∙ is)
+local_start-begun k before d op (InLocalStop n o x e is job un) = absurd cc
+local_start-begun k before d op (InGlobalStop n o x e is job none all last) = absurd cc
+
+local_stop-begun : (k : Declarations) (before : Past) (d : ℕ) (op : OpId) → InStep k before d (Body.LocalStop op) → (o : Operation) × (operation before op.0 ≡ Some o)
+local_stop-begun k before d op (InBoot e) = absurd cc
+local_stop-begun k before d op (InGlobalStart n o x e is job none core) = absurd cc
+local_stop-begun k before d op (InLocalStart n o x e is job global un) = absurd cc
+local_stop-begun k before d op (InLocalStop n o x e is job un) =
+    let same : op.0 ≡ n = ap (λ (i : OpId). i.0) (cc) in (o, ap (operation before) same ∙ is)
+local_stop-begun k before d op (InGlobalStop n o x e is job none all last) = absurd cc
+
+ack-owed : (k : Declarations) (past : Past) (d : ℕ) (op : OpId) → Owes k past d (What.Ack op) → (o : Operation) × (operation past op.0 ≡ Some o)
+ack-owed k past d op (OwesAck n o g m is job un e) = let same : op.0 ≡ n = ap (λ (i : OpId). i.0) (cc) in (o, ap (operation past) same ∙ is)
+ack-owed k past d op (OwesGlobalStart n o x is job none core e) = absurd cc
+ack-owed k past d op (OwesLocalStart n o x is job done un e) = absurd cc
+ack-owed k past d op (OwesLocalStop n o x is job none un e) = absurd cc
+ack-owed k past d op (OwesGlobalStop n o x is job none at last e) = absurd cc
+
+pub ack-begun : (k : Declarations) (past : Past) (d : ℕ) (op : OpId) → Always (Contexts k) past → AckMoment k past d op → (o : Operation) × (operation past op.0 ≡ Some o)
+ack-begun k past d op held (AckChange between owed owes) = ack-owed k past d op owes
+ack-begun k past d op held (AckStart before lost cells was is) =
+    let c : Contexts k before = always-before (Contexts k) past before _ was held in
+    subst (λ p. (o : Operation) × (operation p op.0 ≡ Some o)) (sym was) (local_start-begun k before d op (c.steps d _ is))
+ack-begun k past d op held (AckStop before lost cells was is) =
+    let c : Contexts k before = always-before (Contexts k) past before _ was held in
+    subst (λ p. (o : Operation) × (operation p op.0 ≡ Some o)) (sym was) (local_stop-begun k before d op (c.steps d _ is))
+
+acked-begun-by : (k : Declarations) (l : Limits) (past : Past) (d : ℕ) (w : What) (n c : ℕ) → AllAllowed k l past → Moment k l past d w
+    → (has (acked past n) c ≡ true → (o : Operation) × (operation past n ≡ Some o)) → AckedAfter past n c d w → (o : Operation) × (operation (entry_by d w ∷ past) n ≡ Some o)
+acked-begun-by k l past d w n c all m older (AckedBefore h) = let b = older h in (b.0, begun-kept k l past d w n b.0 all m b.1)
+acked-begun-by k l past d w n c all m older (AcksNow same e) =
+    let b = ack-begun k past d (op_id n) (contexts k l past all) (subst (Moment k l past d) e m) in (b.0, begun-kept k l past d w n b.0 all m b.1)
+
+pub acked-begun : (k : Declarations) (l : Limits) (past : Past) → AllAllowed k l past → (n c : ℕ) → has (acked past n) c ≡ true → (o : Operation) × (operation past n ≡ Some o)
+acked-begun k l [] all n c h = absurd cc
+acked-begun k l (e ∷ past) all n c h =
+    acked-begun-by k l past e.core.0 e.what n c all.1 (allowed-moment k l past e all.1 all.0) (acked-begun k l past all.1 n c) (acked-after past e.core.0 e.what n c h)
