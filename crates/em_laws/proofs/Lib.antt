@@ -6,3 +6,5 @@ pub mod Begun
 pub mod Steps
 pub mod Dones
 pub mod Respects
+pub mod Stopped
+pub mod Changed

@@ -4,7 +4,21 @@ ghost use Rattle.em_log.specs.declared.declarations.Declarations.{Declarations};
 ghost use Rattle.em_log.specs.declared.ids.Limits.{Limits};
 ghost use Rattle.em_log.specs.History.{Past};
 ghost use Rattle.em_log.specs.Lawful.{Lawful};
-ghost use Rattle.em_log.specs.Laws.{Exclusive};
+ghost use Rattle.em_log.specs.Laws.{StopQuiet, GroupQuiet, Exclusive};
+
+/// Stopped objects are quiet: from each completed stop of an object until a start of it completes, no take and no
+/// start of its queues stands, no receive of it is open and none of its events is taken, on any core.
+pub fn stop_quiet()
+    ensures { (k : Declarations) (l : Limits) (past : Past) → Lawful k l past → StopQuiet k past }
+{
+}
+
+/// Changed queue groups are quiet: from each completed change of a queue group until the next, only cores of its mask
+/// take from the group's queues, have an open receive of them, or have events of them taken.
+pub fn group_quiet()
+    ensures { (k : Declarations) (l : Limits) (past : Past) → Lawful k l past → GroupQuiet k past }
+{
+}
 
 /// After each entry at most one core is in an atomic context, and it is the holder.
 pub fn exclusive()
