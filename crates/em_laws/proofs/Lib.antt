@@ -8,3 +8,6 @@ pub mod Dones
 pub mod Respects
 pub mod Stopped
 pub mod Changed
+pub mod Faults
+pub mod Blocks
+pub mod Fresh

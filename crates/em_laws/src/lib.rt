@@ -1,5 +1,8 @@
 //! The laws of every lawful history. The functions do nothing: their contracts are the laws.
 #![tactic(auto)]
+
+pub mod expected;
+
 ghost use Rattle.em_log.specs.declared.declarations.Declarations.{Declarations};
 ghost use Rattle.em_log.specs.declared.ids.Limits.{Limits};
 ghost use Rattle.em_log.specs.History.{Past};
