@@ -11,3 +11,4 @@ pub mod Changed
 pub mod Faults
 pub mod Blocks
 pub mod Fresh
+pub mod Notified
