@@ -12,3 +12,4 @@ pub mod Faults
 pub mod Blocks
 pub mod Fresh
 pub mod Notified
+pub mod Single
