@@ -13,3 +13,4 @@ pub mod Blocks
 pub mod Fresh
 pub mod Notified
 pub mod Single
+pub mod Lists
