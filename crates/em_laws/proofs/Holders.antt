@@ -63,7 +63,7 @@ open-after k l past a c d w m h = by_test (compared d c)
     by_test (Other f e) = OpenBefore (rw f at h)
 
 -- a free atomic context has no open take
-free-none : (k : Declarations) (past : Past) (a c q : ℕ) → Held k past → atomic_of k q ≡ Some a → is_unheld k past q ≡ true → has_open_take k past a c ≡ true → ⊥
+pub free-none : (k : Declarations) (past : Past) (a c q : ℕ) → Held k past → atomic_of k q ≡ Some a → is_unheld k past q ≡ true → has_open_take k past a c ≡ true → ⊥
 free-none k past a c q held is free opened =
     let unheld : is_none (holder k past a) ≡ true = rw is at free in
     let none : holder k past a ≡ None = is_none-none _ unheld in

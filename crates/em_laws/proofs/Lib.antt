@@ -14,3 +14,4 @@ pub mod Fresh
 pub mod Notified
 pub mod Single
 pub mod Lists
+pub mod Started
