@@ -3,7 +3,7 @@ use Rattle.std.proofs.Common.{◌≡◌, ◌≢◌, ℕ, suc, ◌+◌, ◌-◌, 
 use Rattle.std.specs.Prelude.{slice_get, unwrap_or}
 use Rattle.std.specs.Option.{option_map_or, option_and_then}
 use Rattle.std.proofs.lemmas.Nat.{mod-mul-add}
-use Rattle.std.proofs.lemmas.List.{append-nil, append_assoc, map-append, length-map, length-drop, take-map, drop-map}
+use Rattle.std.proofs.lemmas.List.{append-nil, append_assoc, map-append, length-map, length-drop, take-map, drop-map, take-append-drop}
 use Rattle.std.proofs.Math.Seq.{take-add, take-append_seam}
 use Rattle.em_log.specs.declared.declarations.Declarations.{Declarations}
 use Rattle.em_log.specs.declared.entry.Entry.{Entry}
@@ -363,3 +363,58 @@ tracked : (k : Declarations) (l : Limits) (past : Past) (q c : ℕ) → is_serve
 tracked k l [] q c served all = Idle (λ d h. h.0.0 refl) refl (omega arith)
 tracked k l (e ∷ past) q c served all =
     next-tracked k l past e.core.0 e.what q c served all.1 all.0 (allowed-moment k l past e all.1 all.0) (tracked k l past q c served all.1)
+
+-- queues that are not served have no starts
+
+own-served : (k : Declarations) (l : Limits) (past : Past) (c q : ℕ) (w : What) → Moment k l past c w → (take_queue past c ≡ Some q → is_served (kind_of k q) ≡ true)
+    → take_queue_after w (take_queue past c) ≡ Some q → is_served (kind_of k q) ≡ true
+own-served k l past c q (What.Take r n t) m older h = ap (λ (i : ℕ). is_served (kind_of k i)) (sym (some-inj _ _ h)) ∙ m.ready.served
+own-served k l past c q w m older h = older h
+
+next-served : (k : Declarations) (l : Limits) (past : Past) (d : ℕ) (w : What) (c q : ℕ) → Moment k l past d w → (take_queue past c ≡ Some q → is_served (kind_of k q) ≡ true)
+    → take_queue (entry_by d w ∷ past) c ≡ Some q → is_served (kind_of k q) ≡ true
+next-served k l past d w c q m older h = by_test (compared d c)
+  where
+    by_test : Compared d c → is_served (kind_of k q) ≡ true
+    by_test (Same t e) = own-served k l past c q w (subst (λ n. Moment k l past n w) e m) older (rw t at h)
+    by_test (Other f e) = older (rw f at h)
+
+take-served : (k : Declarations) (l : Limits) (past : Past) → AllAllowed k l past → (c q : ℕ) → take_queue past c ≡ Some q → is_served (kind_of k q) ≡ true
+take-served k l [] all c q h = absurd (none-some q h)
+take-served k l (e ∷ past) all c q h =
+    next-served k l past e.core.0 e.what c q (allowed-moment k l past e all.1 all.0) (take-served k l past all.1 c q) h
+
+next-unstarted : (k : Declarations) (l : Limits) (past : Past) (d : ℕ) (w : What) (q c : ℕ) → is_served (kind_of k q) ≡ false → AllAllowed k l past → Moment k l past d w
+    → starts k past q c ≡ [] → starts k (entry_by d w ∷ past) q c ≡ []
+next-unstarted k l past d (What.Start r ev s) q c unserved all m none =
+    let other : is_for k q c r.0 d ≡ false = not-true _ (λ own.
+        let served : is_served (kind_of k r.0) ≡ true = take-served k l past all d r.0 m.queue in
+        absurd (cc (served, unserved, ap (λ (i : ℕ). is_served (kind_of k i)) (for-queue k q c r.0 d own)))) in
+    rw other none
+next-unstarted k l past d w q c unserved all m none = none
+
+unstarted : (k : Declarations) (l : Limits) (past : Past) (q c : ℕ) → is_served (kind_of k q) ≡ false → AllAllowed k l past → starts k past q c ≡ []
+unstarted k l [] q c unserved all = refl
+unstarted k l (e ∷ past) q c unserved all =
+    next-unstarted k l past e.core.0 e.what q c unserved all.1 (allowed-moment k l past e all.1 all.0) (unstarted k l past q c unserved all.1)
+
+first-of : (starts ts L : List Shown) (gone : ℕ) → starts ++ ts ≡ take gone L → starts ≡ take (length starts) L
+first-of starts ts L gone e =
+    let whole : L ≡ starts ++ (ts ++ drop gone L) = sym (take-append-drop gone L) ∙ ap (λ xs. xs ++ drop gone L) (sym e) ∙ append_assoc starts ts (drop gone L) in
+    sym (ap (take (length starts)) whole ∙ take-append_seam starts (ts ++ drop gone L))
+
+first-tracked : (k : Declarations) (past : Past) (q c : ℕ) → Tracked k past q c → starts k past q c ≡ take (length (starts k past q c)) (map shown_item (arrivals k past q c))
+first-tracked k past q c (Idle none track bound) = first-of (starts k past q c) [] (map shown_item (arrivals k past q c)) (gone k past q c) (append-nil _ ∙ track)
+first-tracked k past q c (Busy b holding only track bound) =
+    first-of (starts k past q c) (map shown_item (taken k past b)) (map shown_item (arrivals k past q c)) (gone k past q c) track
+
+-- the starts of a list are its first arrivals, in order
+pub started-first : (k : Declarations) (l : Limits) (past : Past) → AllAllowed k l past → (q c : ℕ)
+    → starts k past q c ≡ take (length (starts k past q c)) (map shown_item (arrivals k past q c))
+started-first k l past all q c = by_served (is_served (kind_of k q)) refl
+  where
+    by_served : (b : Bool) → is_served (kind_of k q) ≡ b → starts k past q c ≡ take (length (starts k past q c)) (map shown_item (arrivals k past q c))
+    by_served true is = first-tracked k past q c (tracked k l past q c is all)
+    by_served false is =
+        let none : starts k past q c ≡ [] = unstarted k l past q c is all in
+        none ∙ sym (ap (λ xs. take (length xs) (map shown_item (arrivals k past q c))) none)
