@@ -15,3 +15,4 @@ pub mod Notified
 pub mod Single
 pub mod Lists
 pub mod Started
+pub mod Counts
