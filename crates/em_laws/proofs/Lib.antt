@@ -16,3 +16,4 @@ pub mod Single
 pub mod Lists
 pub mod Started
 pub mod Counts
+pub mod Spent
