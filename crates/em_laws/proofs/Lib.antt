@@ -17,3 +17,4 @@ pub mod Lists
 pub mod Started
 pub mod Counts
 pub mod Spent
+pub mod Tickets
