@@ -18,3 +18,4 @@ pub mod Started
 pub mod Counts
 pub mod Spent
 pub mod Tickets
+pub mod Entering

@@ -15,7 +15,7 @@ use Rattle.em_log.specs.declared.ids.Limits.{Limits}
 use Rattle.em_log.specs.History.{Past, entry_by, has}
 use Rattle.em_log.specs.Declarations.{kind_of, is_ordered, numbers_from}
 use Rattle.em_log.specs.Handles.{Spending, spending, rule}
-use Rattle.em_log.specs.Order.{Ticket, Sent, takes_after, takes, ticket_after, open_ticket, with_number, ended_after, ended, run_from, released, ticket_of_send, enters, is_ticket, sends_after, sends_under}
+use Rattle.em_log.specs.Order.{Ticket, Sent, takes_after, takes, ticket_after, open_ticket, with_number, ended_after, ended, run_from, released, ticket_of_send, enters, is_ticket, sends_after, sends_under, sends_under_all, let_in}
 use Rattle.em_log.specs.Eligible.{ticket_drawn}
 use Rattle.em_log.specs.Lawful.{AllAllowed}
 use Rattle.em_log.proofs.Moments.{Moment, TakeMoment, SendMoment, allowed-moment}
@@ -207,3 +207,115 @@ under-send k l past d f q t st h s i m was = by_test (compared f.0 h) (is_ticket
         let same : spending now h ≡ spending past h = spends-other past d (What.Send f q t st) h (rw u refl) in
         let once = was.once in
         record { once = omega (arith, whole, once); other = λ no_ticket. whole ∙ was.other (rw same at no_ticket) }
+
+under-other : (past : Past) (d : ℕ) (w : What) (h s m : ℕ) → Under past h s m → is_ticket s m (sent_ticket (spending (entry_by d w ∷ past) h)) ≡ false
+    → times h (sends_under past s m) ≡ 0
+under-other past d w h s m was no_ticket = by_spent (spending past h) refl
+  where
+    by_spent : (o : Option Spending) → spending past h ≡ o → times h (sends_under past s m) ≡ 0
+    by_spent None is = was.other (rw is refl)
+    by_spent (Some p) is = was.other (rw is (rw (spending-kept past d w h p is) at no_ticket))
+
+next-under : (k : Declarations) (l : Limits) (past : Past) (d : ℕ) (w : What) (h s m : ℕ) → Moment k l past d w → Under past h s m → Under (entry_by d w ∷ past) h s m
+next-under k l past d (What.Send f q t st) h s i m was = under-send k l past d f q t st h s i m was
+next-under k l past d w h s i m was = record { once = was.once; other = under-other past d w h s i was }
+
+pub under : (k : Declarations) (l : Limits) (past : Past) → AllAllowed k l past → (h s m : ℕ) → Under past h s m
+under k l [] all h s m = record { once = omega arith; other = λ no_ticket. refl }
+under k l (e ∷ past) all h s m = next-under k l past e.core.0 e.what h s m (allowed-moment k l past e all.1 all.0) (under k l past all.1 h s m)
+
+-- what the end of a ticket lets in
+
+range-none : (past : Past) (h s a n : ℕ) → ((m : ℕ) → a ≤ m → m < a + n → times h (sends_under past s m) ≡ 0) → times h (sends_under_all past s (numbers_from a n)) ≡ 0
+range-none past h s a zero none = refl
+range-none past h s a (suc n) none =
+    let here = none a (omega arith) (omega arith) in
+    let later = range-none past h s (suc a) n (λ m low high. none m (omega arith) (omega arith)) in
+    let whole = times-append h (sends_under past s a) (sends_under_all past s (numbers_from (suc a) n)) in omega (arith, here, later, whole)
+
+range-once : (past : Past) (h s i a n : ℕ) → ((m : ℕ) → m ≢ i → times h (sends_under past s m) ≡ 0) → times h (sends_under past s i) ≤ 1
+    → times h (sends_under_all past s (numbers_from a n)) ≤ 1
+range-once past h s i a zero others once = omega arith
+range-once past h s i a (suc n) others once = by_test (compared a i) (range-once past h s i (suc a) n others once)
+  where
+    whole : times h (sends_under past s a ++ sends_under_all past s (numbers_from (suc a) n)) ≡ times h (sends_under past s a) + times h (sends_under_all past s (numbers_from (suc a) n))
+    whole = times-append h (sends_under past s a) (sends_under_all past s (numbers_from (suc a) n))
+
+    by_test : Compared a i → times h (sends_under_all past s (numbers_from (suc a) n)) ≤ 1 → times h (sends_under past s a ++ sends_under_all past s (numbers_from (suc a) n)) ≤ 1
+    by_test (Same _ e) later =
+        let none = range-none past h s (suc a) n (λ m low high. others m (λ f. omega (arith, e, f, low))) in
+        let here : times h (sends_under past s a) ≤ 1 = subst (λ m. times h (sends_under past s m) ≤ 1) (sym e) once in omega (arith, whole, none, here)
+    by_test (Other _ ne) later = let here = others a ne in omega (arith, whole, here, later)
+
+other-ticket : (s m : ℕ) (t : Ticket) → ((t.queue ≡ s) → t.number ≡ m → ⊥) → is_ticket s m (Some t) ≡ false
+other-ticket s m t ne = by_test (compared t.queue s) (compared t.number m)
+  where
+    by_test : Compared t.queue s → Compared t.number m → is_ticket s m (Some t) ≡ false
+    by_test (Same u e) (Same v f) = absurd (ne e f)
+    by_test (Same u e) (Other v f) = rw (u, v) refl
+    by_test (Other u e) c = rw u refl
+
+nat-le-false : (m n : ℕ) → nat_le m n ≡ false → n < m
+nat-le-false m n h = by_test (leb_tells m n)
+  where
+    by_test : ((nat_le m n ≡ true) × (m ≤ n)) ⊎ ((nat_le m n ≡ false) × (n < m)) → n < m
+    by_test (inl p) = absurd (cc (h, p.0))
+    by_test (inr p) = p.1
+
+-- a handle that was not sent under a ticket is not let in
+pub let-in-none : (k : Declarations) (l : Limits) (past now : Past) (o : Option Ticket) (h : ℕ) → AllAllowed k l past → sent_ticket (spending past h) ≡ None → times h (let_in past now o) ≡ 0
+let-in-none k l past now None h all is = refl
+let-in-none k l past now (Some t) h all is =
+    range-none past h t.queue (suc (released past t.queue)) (released now t.queue - released past t.queue) (λ m low high. (under k l past all h t.queue m).other (rw is refl))
+
+abbrev pub one_if : Bool → ℕ
+one_if true = 1
+one_if false = 0
+
+-- a handle that was sent under a ticket is let in as it becomes one that enters
+pub let-in-gain : (k : Declarations) (l : Limits) (past : Past) (d : ℕ) (w : What) (o : Option Ticket) (h : ℕ) (t : Ticket) → AllAllowed k l past → sent_ticket (spending past h) ≡ Some t
+    → times h (let_in past (entry_by d w ∷ past) o) + one_if (enters past (Some t)) ≤ one_if (enters (entry_by d w ∷ past) (Some t))
+let-in-gain k l past d w None h t all is = by_test (enters past (Some t)) refl
+  where
+    by_test : (b : Bool) → enters past (Some t) ≡ b → 0 + one_if b ≤ one_if (enters (entry_by d w ∷ past) (Some t))
+    by_test true at = rw (enters-grow past d w (Some t) at) (omega arith)
+    by_test false at = omega arith
+let-in-gain k l past d w (Some u) h t all is = by_queue (compared t.queue u.queue)
+  where
+    now : Past
+    now = entry_by d w ∷ past
+
+    count : ℕ
+    count = times h (sends_under_all past u.queue (numbers_from (suc (released past u.queue)) (released now u.queue - released past u.queue)))
+
+    zero_at : (m : ℕ) → (t.queue ≡ u.queue → t.number ≡ m → ⊥) → times h (sends_under past u.queue m) ≡ 0
+    zero_at m ne = (under k l past all h u.queue m).other (rw is (other-ticket u.queue m t ne))
+
+    none : ((m : ℕ) → suc (released past u.queue) ≤ m → m < suc (released past u.queue) + (released now u.queue - released past u.queue) → t.queue ≡ u.queue → t.number ≡ m → ⊥) → count ≡ 0
+    none ne = range-none past h u.queue (suc (released past u.queue)) (released now u.queue - released past u.queue) (λ m low high. zero_at m (ne m low high))
+
+    grown : count ≡ 0 → (b : Bool) → enters past (Some t) ≡ b → count + one_if b ≤ one_if (enters now (Some t))
+    grown nothing true at = rw (enters-grow past d w (Some t) at) (omega (arith, nothing))
+    grown nothing false at = omega (arith, nothing)
+
+    by_enters : t.queue ≡ u.queue → (a : Bool) → enters past (Some t) ≡ a → (b : Bool) → enters now (Some t) ≡ b → count + one_if a ≤ one_if b
+    by_enters same true before b after =
+        let le = nat-le-is t.number (released past t.queue) before in
+        let here = ap (released past) same in
+        let nothing = none (λ m low high e f. omega (arith, le, here, low, f)) in
+        let on : b ≡ true = sym after ∙ enters-grow past d w (Some t) before in
+        rw on (omega (arith, nothing))
+    by_enters same false before true after =
+        let once = range-once past h u.queue t.number (suc (released past u.queue)) (released now u.queue - released past u.queue)
+            (λ m ne. zero_at m (λ e f. ne (sym f))) (under k l past all h u.queue t.number).once in
+        omega (arith, once)
+    by_enters same false before false after =
+        let gt = nat-le-false t.number (released now t.queue) after in
+        let here = ap (released now) same in
+        let more = released-grows past d w u.queue in
+        let nothing = none (λ m low high e f. omega (arith, gt, here, more, high, f)) in
+        omega (arith, nothing)
+
+    by_queue : Compared t.queue u.queue → count + one_if (enters past (Some t)) ≤ one_if (enters now (Some t))
+    by_queue (Same _ e) = by_enters e (enters past (Some t)) refl (enters now (Some t)) refl
+    by_queue (Other _ ne) = grown (none (λ m low high e f. ne e)) (enters past (Some t)) refl
