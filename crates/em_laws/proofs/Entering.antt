@@ -30,18 +30,18 @@ use Rattle.em_laws.proofs.Counts.{occ, times, times-append, occ-none, has-occ, d
 use Rattle.em_laws.proofs.Spent.{IsUsable, usable, spending-kept, spends-now, spends-other, NotesSpent, notes-spent, IsBegunBy, AppliedSpent, applied-spent, IsAppliedBy, Unended, unended, notified-kept}
 use Rattle.em_laws.proofs.Tickets.{sent_ticket, enters-grow, let-in-none, let-in-gain, one_if}
 
-abbrev yes : Option Bool → ℕ
+abbrev pub yes : Option Bool → ℕ
 yes (Some true) = 1
 yes _ = 0
 
 -- how often a handle that was spent by this entry may have entered
-abbrev share_by : Past → Past → ℕ → What → ℕ
+abbrev pub share_by : Past → Past → ℕ → What → ℕ
 share_by past before d (What.Send f q t st) = one_if (enters past (ticket_of_send before d t))
 share_by past before d (What.Begin op job notes) = yes (done past op.0)
 share_by past before d (What.Apply g a n notes) = yes (application_end past g.0 a)
 share_by past before d w = 0
 
-abbrev share : Past → Option Spending → ℕ
+abbrev pub share : Past → Option Spending → ℕ
 share past None = 0
 share past (Some s) = share_by past s.before s.core s.what
 

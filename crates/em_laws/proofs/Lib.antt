@@ -19,3 +19,5 @@ pub mod Counts
 pub mod Spent
 pub mod Tickets
 pub mod Entering
+pub mod Sends
+pub mod Events

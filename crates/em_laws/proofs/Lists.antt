@@ -17,7 +17,7 @@ use Rattle.em_log.specs.Laws.{Shown, shown_item}
 use Rattle.em_log.proofs.Asked.{and-true}
 use Rattle.em_laws.proofs.Cores.{Compared, Same, Other, compared, eqb-eq}
 
-grows-by : (k : Declarations) (past : Past) (q c : ℕ) (items : List Item) (ss : List Sent) → (ys : List Item) × (with_items k past q c items ss ≡ items ++ ys)
+pub grows-by : (k : Declarations) (past : Past) (q c : ℕ) (items : List Item) (ss : List Sent) → (ys : List Item) × (with_items k past q c items ss ≡ items ++ ys)
 grows-by k past q c items [] = ([], sym (append-nil items))
 grows-by k past q c items (s ∷ ss) = by_test (is_for k q c s.queue s.core) (grows-by k past q c items ss) (grows-by k past q c (items ++ item past s) ss)
   where

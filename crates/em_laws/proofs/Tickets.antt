@@ -255,7 +255,7 @@ other-ticket s m t ne = by_test (compared t.queue s) (compared t.number m)
     by_test (Same u e) (Other v f) = rw (u, v) refl
     by_test (Other u e) c = rw u refl
 
-nat-le-false : (m n : ℕ) → nat_le m n ≡ false → n < m
+pub nat-le-false : (m n : ℕ) → nat_le m n ≡ false → n < m
 nat-le-false m n h = by_test (leb_tells m n)
   where
     by_test : ((nat_le m n ≡ true) × (m ≤ n)) ⊎ ((nat_le m n ≡ false) × (n < m)) → n < m
