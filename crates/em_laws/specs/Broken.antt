@@ -178,6 +178,9 @@ aborted =
 abbrev pub second_notification : Entry
 second_notification = entry_by 0 (What.Notify egroup 1)
 
+abbrev pub no_more : List Entry
+no_more = []
+
 -- an event that is started twice after it was given back
 
 -- core 0 takes two events, starts the first and gives the second back

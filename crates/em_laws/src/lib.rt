@@ -1,6 +1,7 @@
 //! The laws of every lawful history. The functions do nothing: their contracts are the laws.
 #![tactic(auto)]
 
+pub mod broken;
 pub mod expected;
 
 ghost use Rattle.em_log.specs.declared.declarations.Declarations.{Declarations};
