@@ -1,5 +1,5 @@
 -- For each law a short history that breaks it by one wrong entry.
-use Rattle.std.specs.Prelude.{ℕ, ◌≡◌, Bool, true, false, List, [], ◌∷◌, ◌++◌, Option, Some, None, replicate}
+use Rattle.std.specs.Prelude.{ℕ, ◌≡◌, true, List, [], ◌∷◌, ◌++◌, Some, None, replicate}
 use Rattle.em_log.specs.declared.declarations.Declarations.{Declarations}
 use Rattle.em_log.specs.declared.declarations.QueueShape.{QueueShape}
 use Rattle.em_log.specs.declared.entry.Entry.{Entry}
