@@ -29,39 +29,39 @@ use Rattle.em_laws.proofs.Counts.{occ, times, times-append, different, entered, 
 use Rattle.em_laws.proofs.Spent.{usable, spending-kept, spends-now, notes-spent, applied-spent, unended, notified-kept}
 use Rattle.em_laws.proofs.Tickets.{sent_ticket, enters-grow, let-in-none, let-in-gain, one_if}
 
-abbrev pub yes : Option Bool → ℕ
-yes (Some true) = 1
-yes _ = 0
+abbrev pub one_if_ok : Option Bool → ℕ
+one_if_ok (Some true) = 1
+one_if_ok _ = 0
 
 -- how often a handle that was spent by this entry may have entered
-abbrev pub share_by : Past → Past → ℕ → What → ℕ
-share_by past before d (What.Send f q t st) = one_if (enters past (ticket_of_send before d t))
-share_by past before d (What.Begin op job notes) = yes (done past op.0)
-share_by past before d (What.Apply g a n notes) = yes (application_end past g.0 a)
-share_by past before d w = 0
+abbrev pub times_allowed_by : Past → Past → ℕ → What → ℕ
+times_allowed_by past before d (What.Send f q t st) = one_if (enters past (ticket_of_send before d t))
+times_allowed_by past before d (What.Begin op job notes) = one_if_ok (done past op.0)
+times_allowed_by past before d (What.Apply g a n notes) = one_if_ok (application_end past g.0 a)
+times_allowed_by past before d w = 0
 
-abbrev pub share : Past → Option Spending → ℕ
-share past None = 0
-share past (Some s) = share_by past s.before s.core s.what
+abbrev pub times_allowed : Past → Option Spending → ℕ
+times_allowed past None = 0
+times_allowed past (Some s) = times_allowed_by past s.before s.core s.what
 
-yes-le : (o : Option Bool) → yes o ≤ 1
-yes-le None = omega arith
-yes-le (Some true) = omega arith
-yes-le (Some false) = omega arith
+one_if_ok-le : (o : Option Bool) → one_if_ok o ≤ 1
+one_if_ok-le None = omega arith
+one_if_ok-le (Some true) = omega arith
+one_if_ok-le (Some false) = omega arith
 
 one_if-le : (b : Bool) → one_if b ≤ 1
 one_if-le true = omega arith
 one_if-le false = omega arith
 
-share_by-le : (past before : Past) (d : ℕ) (w : What) → share_by past before d w ≤ 1
-share_by-le past before d (What.Send f q t st) = one_if-le (enters past (ticket_of_send before d t))
-share_by-le past before d (What.Begin op job notes) = yes-le (done past op.0)
-share_by-le past before d (What.Apply g a n notes) = yes-le (application_end past g.0 a)
-share_by-le past before d w = omega arith
+times_allowed_by-le : (past before : Past) (d : ℕ) (w : What) → times_allowed_by past before d w ≤ 1
+times_allowed_by-le past before d (What.Send f q t st) = one_if-le (enters past (ticket_of_send before d t))
+times_allowed_by-le past before d (What.Begin op job notes) = one_if_ok-le (done past op.0)
+times_allowed_by-le past before d (What.Apply g a n notes) = one_if_ok-le (application_end past g.0 a)
+times_allowed_by-le past before d w = omega arith
 
-share-le : (past : Past) (o : Option Spending) → share past o ≤ 1
-share-le past None = omega arith
-share-le past (Some s) = share_by-le past s.before s.core s.what
+times_allowed-le : (past : Past) (o : Option Spending) → times_allowed past o ≤ 1
+times_allowed-le past None = omega arith
+times_allowed-le past (Some s) = times_allowed_by-le past s.before s.core s.what
 
 -- it grows
 
@@ -76,38 +76,38 @@ done-kept k l past d (What.Done op ok) n all m h = by_test (compared op.0 n)
     by_test (Other u e) = rw u h
 done-kept k l past d w n all m h = h
 
-yes-grows : (o p : Option Bool) → (o ≡ Some true → p ≡ Some true) → yes o ≤ yes p
-yes-grows None p h = omega arith
-yes-grows (Some true) p h = rw (h refl) (omega arith)
-yes-grows (Some false) p h = omega arith
+one_if_ok-grows : (o p : Option Bool) → (o ≡ Some true → p ≡ Some true) → one_if_ok o ≤ one_if_ok p
+one_if_ok-grows None p h = omega arith
+one_if_ok-grows (Some true) p h = rw (h refl) (omega arith)
+one_if_ok-grows (Some false) p h = omega arith
 
 one_if-grows : (a b : Bool) → (a ≡ true → b ≡ true) → one_if a ≤ one_if b
 one_if-grows true b h = rw (h refl) (omega arith)
 one_if-grows false b h = omega arith
 
-share_by-grows : (k : Declarations) (l : Limits) (past : Past) (d : ℕ) (w : What) → AllAllowed k l past → Moment k l past d w
-    → (before : Past) (c : ℕ) (v : What) → share_by past before c v ≤ share_by (entry_by d w ∷ past) before c v
-share_by-grows k l past d w all m before c (What.Send f q t st) = one_if-grows _ _ (enters-grow past d w (ticket_of_send before c t))
-share_by-grows k l past d w all m before c (What.Begin op job notes) = yes-grows _ _ (done-kept k l past d w op.0 all m)
-share_by-grows k l past d w all m before c (What.Apply g a n notes) = yes-grows _ _ (notified-kept k l past d w g.0 a all m)
-share_by-grows k l past d w all m before c v = omega arith
+times_allowed_by-grows : (k : Declarations) (l : Limits) (past : Past) (d : ℕ) (w : What) → AllAllowed k l past → Moment k l past d w
+    → (before : Past) (c : ℕ) (v : What) → times_allowed_by past before c v ≤ times_allowed_by (entry_by d w ∷ past) before c v
+times_allowed_by-grows k l past d w all m before c (What.Send f q t st) = one_if-grows _ _ (enters-grow past d w (ticket_of_send before c t))
+times_allowed_by-grows k l past d w all m before c (What.Begin op job notes) = one_if_ok-grows _ _ (done-kept k l past d w op.0 all m)
+times_allowed_by-grows k l past d w all m before c (What.Apply g a n notes) = one_if_ok-grows _ _ (notified-kept k l past d w g.0 a all m)
+times_allowed_by-grows k l past d w all m before c v = omega arith
 
-share-grows : (k : Declarations) (l : Limits) (past : Past) (d : ℕ) (w : What) (h : ℕ) → AllAllowed k l past → Moment k l past d w
-    → share past (spending past h) ≤ share (entry_by d w ∷ past) (spending (entry_by d w ∷ past) h)
-share-grows k l past d w h all m = by_spent (spending past h) refl
+times_allowed-grows : (k : Declarations) (l : Limits) (past : Past) (d : ℕ) (w : What) (h : ℕ) → AllAllowed k l past → Moment k l past d w
+    → times_allowed past (spending past h) ≤ times_allowed (entry_by d w ∷ past) (spending (entry_by d w ∷ past) h)
+times_allowed-grows k l past d w h all m = by_spent (spending past h) refl
   where
-    by_spent : (o : Option Spending) → spending past h ≡ o → share past o ≤ share (entry_by d w ∷ past) (spending (entry_by d w ∷ past) h)
+    by_spent : (o : Option Spending) → spending past h ≡ o → times_allowed past o ≤ times_allowed (entry_by d w ∷ past) (spending (entry_by d w ∷ past) h)
     by_spent None is = omega arith
-    by_spent (Some s) is = rw (spending-kept past d w h s is) (share_by-grows k l past d w all m s.before s.core s.what)
+    by_spent (Some s) is = rw (spending-kept past d w h s is) (times_allowed_by-grows k l past d w all m s.before s.core s.what)
 
 -- what an entry lets enter of a handle
 abbrev Gains : Declarations → Past → ℕ → What → ℕ → Type 0
 Gains k past d w h =
-    times h (entering_by k past (entry_by d w ∷ past) d w) + share past (spending past h) ≤ share (entry_by d w ∷ past) (spending (entry_by d w ∷ past) h)
+    times h (entering_by k past (entry_by d w ∷ past) d w) + times_allowed past (spending past h) ≤ times_allowed (entry_by d w ∷ past) (spending (entry_by d w ∷ past) h)
 
 gains-nothing : (k : Declarations) (l : Limits) (past : Past) (d : ℕ) (w : What) (h : ℕ) → AllAllowed k l past → Moment k l past d w
     → times h (entering_by k past (entry_by d w ∷ past) d w) ≡ 0 → Gains k past d w h
-gains-nothing k l past d w h all m nothing = let more = share-grows k l past d w h all m in omega (arith, nothing, more)
+gains-nothing k l past d w h all m nothing = let more = times_allowed-grows k l past d w h all m in omega (arith, nothing, more)
 
 -- sends
 
@@ -126,14 +126,14 @@ gains-send k l past d f q t st h all m = by_test (compared f.0 h)
     w = What.Send f q t st
 
     by_enters : (f.0 == h) ≡ true → spending past h ≡ None → spending (entry_by d w ∷ past) h ≡ Some (record { before = past; core = d; what = w })
-        → (b : Bool) → enters past (ticket_of_send past d t) ≡ b → times h (if b then record { queue = q.0; core = d; handle = f.0; stamp = st } ∷ [] else []) + share past (spending past h) ≤ share (entry_by d w ∷ past) (spending (entry_by d w ∷ past) h)
+        → (b : Bool) → enters past (ticket_of_send past d t) ≡ b → times h (if b then record { queue = q.0; core = d; handle = f.0; stamp = st } ∷ [] else []) + times_allowed past (spending past h) ≤ times_allowed (entry_by d w ∷ past) (spending (entry_by d w ∷ past) h)
     by_enters u free spent true is =
-        let before : share past (spending past h) ≡ 0 = ap (share past) free in
-        let after : share (entry_by d w ∷ past) (spending (entry_by d w ∷ past) h) ≡ one_if (enters (entry_by d w ∷ past) (ticket_of_send past d t)) = ap (share (entry_by d w ∷ past)) spent in
+        let before : times_allowed past (spending past h) ≡ 0 = ap (times_allowed past) free in
+        let after : times_allowed (entry_by d w ∷ past) (spending (entry_by d w ∷ past) h) ≡ one_if (enters (entry_by d w ∷ past) (ticket_of_send past d t)) = ap (times_allowed (entry_by d w ∷ past)) spent in
         let on : one_if (enters (entry_by d w ∷ past) (ticket_of_send past d t)) ≡ 1 = ap one_if (enters-grow past d w (ticket_of_send past d t) is) in
         let one : times h (record { queue = q.0; core = d; handle = f.0; stamp = st } ∷ []) ≡ 1 = rw u refl in
         omega (arith, before, after, on, one)
-    by_enters u free spent false is = let before : share past (spending past h) ≡ 0 = ap (share past) free in omega (arith, before)
+    by_enters u free spent false is = let before : times_allowed past (spending past h) ≡ 0 = ap (times_allowed past) free in omega (arith, before)
 
     by_test : Compared f.0 h → Gains k past d w h
     by_test (Same u e) =
@@ -144,30 +144,30 @@ gains-send k l past d f q t st h all m = by_test (compared f.0 h)
 -- ends of tickets
 
 gains-let_in : (k : Declarations) (l : Limits) (past : Past) (d : ℕ) (w : What) (o : Option Ticket) (h : ℕ) → AllAllowed k l past → Moment k l past d w
-    → times h (let_in past (entry_by d w ∷ past) o) + share past (spending past h) ≤ share (entry_by d w ∷ past) (spending (entry_by d w ∷ past) h)
+    → times h (let_in past (entry_by d w ∷ past) o) + times_allowed past (spending past h) ≤ times_allowed (entry_by d w ∷ past) (spending (entry_by d w ∷ past) h)
 gains-let_in k l past d w o h all m = by_spent (spending past h) refl
   where
     now : Past
     now = entry_by d w ∷ past
 
-    none : sent_ticket (spending past h) ≡ None → times h (let_in past now o) + share past (spending past h) ≤ share now (spending now h)
-    none is = let nothing = let-in-none k l past now o h all is in let more = share-grows k l past d w h all m in omega (arith, nothing, more)
+    none : sent_ticket (spending past h) ≡ None → times h (let_in past now o) + times_allowed past (spending past h) ≤ times_allowed now (spending now h)
+    none is = let nothing = let-in-none k l past now o h all is in let more = times_allowed-grows k l past d w h all m in omega (arith, nothing, more)
 
     by_ticket : (s : Spending) (f : Handle) (q : QueueId) (t : Option ℕ) (st : Option Stamp) → spending past h ≡ Some s → s.what ≡ What.Send f q t st
-        → (tk : Option Ticket) → ticket_of_send s.before s.core t ≡ tk → times h (let_in past now o) + share past (spending past h) ≤ share now (spending now h)
+        → (tk : Option Ticket) → ticket_of_send s.before s.core t ≡ tk → times h (let_in past now o) + times_allowed past (spending past h) ≤ times_allowed now (spending now h)
     by_ticket s f q t st is sent None no_ticket = none (rw (is, sent, no_ticket) refl)
     by_ticket s f q t st is sent (Some tk) ticket =
         let ticketed : sent_ticket (spending past h) ≡ Some tk = rw (is, sent, ticket) refl in
         let gain = let-in-gain k l past d w o h tk all ticketed in
-        let before : share past (spending past h) ≡ one_if (enters past (Some tk)) = ap (share past) is ∙ (rw (sent, ticket) refl) in
-        let after : share now (spending now h) ≡ one_if (enters now (Some tk)) = ap (share now) (spending-kept past d w h s is) ∙ (rw (sent, ticket) refl) in
+        let before : times_allowed past (spending past h) ≡ one_if (enters past (Some tk)) = ap (times_allowed past) is ∙ (rw (sent, ticket) refl) in
+        let after : times_allowed now (spending now h) ≡ one_if (enters now (Some tk)) = ap (times_allowed now) (spending-kept past d w h s is) ∙ (rw (sent, ticket) refl) in
         omega (arith, gain, before, after)
 
-    by_what : (s : Spending) → spending past h ≡ Some s → (v : What) → s.what ≡ v → times h (let_in past now o) + share past (spending past h) ≤ share now (spending now h)
+    by_what : (s : Spending) → spending past h ≡ Some s → (v : What) → s.what ≡ v → times h (let_in past now o) + times_allowed past (spending past h) ≤ times_allowed now (spending now h)
     by_what s is (What.Send f q t st) e = by_ticket s f q t st is e (ticket_of_send s.before s.core t) refl
     by_what s is v e = none (rw (is, e) refl)
 
-    by_spent : (p : Option Spending) → spending past h ≡ p → times h (let_in past now o) + share past (spending past h) ≤ share now (spending now h)
+    by_spent : (p : Option Spending) → spending past h ≡ p → times h (let_in past now o) + times_allowed past (spending past h) ≤ times_allowed now (spending now h)
     by_spent None is = none (rw is refl)
     by_spent (Some s) is = by_what s is s.what refl
 
@@ -224,8 +224,8 @@ gains-done k l past d op h all m = by_words (has (note_words q.started.notes) h)
         let few = lets in
         let undone : done past b.op.0 ≡ None = ap (done past) b.number ∙ q.undone in
         let done_now : done now b.op.0 ≡ Some true = rw (eq-eqb op.0 b.op.0 (sym b.number)) refl in
-        let before : share past (spending past h) ≡ 0 = ap (share past) b.spent ∙ ap yes undone in
-        let after : share now (spending now h) ≡ 1 = ap (share now) (spending-kept past d w h _ b.spent) ∙ ap yes done_now in
+        let before : times_allowed past (spending past h) ≡ 0 = ap (times_allowed past) b.spent ∙ ap one_if_ok undone in
+        let after : times_allowed now (spending now h) ≡ 1 = ap (times_allowed now) (spending-kept past d w h _ b.spent) ∙ ap one_if_ok done_now in
         omega (arith, once, few, before, after)
 
 gains-notify : (k : Declarations) (l : Limits) (past : Past) (d : ℕ) (g : EventGroupId) (a h : ℕ) → AllAllowed k l past → NotifyMoment past g.0 a → Gains k past d (What.Notify g a) h
@@ -252,8 +252,8 @@ gains-notify k l past d g a h all m = by_words (has (note_words (applied_notes p
         let unended_now : application_end past g.0 (applications past g.0) ≡ None = (unended k l past all g.0 (applications past g.0)).current on.0 refl in
         let none : application_end past b.group.0 b.app ≡ None = ap (λ (i : ℕ). application_end past i b.app) b.same_group ∙ ap (application_end past g.0) b.number ∙ unended_now in
         let ends : application_end now b.group.0 b.app ≡ Some true = rw (eq-eqb g.0 b.group.0 (sym b.same_group), eq-eqb a b.app (sym (b.number ∙ number))) refl in
-        let before : share past (spending past h) ≡ 0 = ap (share past) b.spent ∙ ap yes none in
-        let after : share now (spending now h) ≡ 1 = ap (share now) (spending-kept past d w h _ b.spent) ∙ ap yes ends in
+        let before : times_allowed past (spending past h) ≡ 0 = ap (times_allowed past) b.spent ∙ ap one_if_ok none in
+        let after : times_allowed now (spending now h) ≡ 1 = ap (times_allowed now) (spending-kept past d w h _ b.spent) ∙ ap one_if_ok ends in
         omega (arith, once, few, before, after)
 
 gains : (k : Declarations) (l : Limits) (past : Past) (d : ℕ) (w : What) (h : ℕ) → AllAllowed k l past → Moment k l past d w → Gains k past d w h
@@ -266,10 +266,10 @@ gains k l past d (What.Notify g a) h all m = gains-notify k l past d g a h all m
 gains k l past d w h all m = gains-nothing k l past d w h all m refl
 
 -- a handle has entered at most as often as it may
-pub entered-share : (k : Declarations) (l : Limits) (past : Past) → AllAllowed k l past → (h : ℕ) → times h (entered k past) ≤ share past (spending past h)
-entered-share k l [] all h = omega arith
-entered-share k l (e ∷ past) all h =
-    let older = entered-share k l past all.1 h in
+pub entered-allowed : (k : Declarations) (l : Limits) (past : Past) → AllAllowed k l past → (h : ℕ) → times h (entered k past) ≤ times_allowed past (spending past h)
+entered-allowed k l [] all h = omega arith
+entered-allowed k l (e ∷ past) all h =
+    let older = entered-allowed k l past all.1 h in
     let gain = gains k l past e.core.0 e.what h all.1 (allowed-moment k l past e all.1 all.0) in
     let whole = times-append h (entered k past) (entering k past e) in omega (arith, older, gain, whole)
 
@@ -278,5 +278,5 @@ pub enters-once : (k : Declarations) (l : Limits) (past : Past) → AllAllowed k
 enters-once k l past all =
     different (entered_in_all k past) (λ h.
     let few = entered-all-le k past h in
-    let mine = entered-share k l past all h in
-    let one = share-le past (spending past h) in omega (arith, few, mine, one))
+    let mine = entered-allowed k l past all h in
+    let one = times_allowed-le past (spending past h) in omega (arith, few, mine, one))

@@ -13,7 +13,9 @@ use Rattle.em_log.specs.declared.entry.Event.{Event}
 use Rattle.em_log.specs.declared.ids.Limits.{Limits}
 use Rattle.em_log.specs.declared.ids.QueueId.{QueueId}
 use Rattle.em_log.specs.History.{Past, has, minted_in, index_of, handle_of}
-use Rattle.em_log.specs.Declarations.{numbers_from, event_total, events_of_pool, indices_of_pool}
+use Rattle.em_log.specs.declared.graph.Config.{Config}
+use Rattle.em_log.specs.WellFormed.{IsWellFormed}
+use Rattle.em_log.specs.Declarations.{declarations_of, numbers_from, event_total, events_of_pool, indices_of_pool}
 use Rattle.em_log.specs.Contexts.{context_object}
 use Rattle.em_log.specs.Handles.{Minting, minting, next_handle, generation, one_more}
 use Rattle.em_log.specs.Arrivals.{Item}
@@ -153,3 +155,8 @@ minted-once k l (e ∷ past) small all = by_mint (moment-mints k l past e.core.0
         let fresh : has (minted past) v.handle.0 ≡ false = not-true _ (λ there. next-fresh past i v.handle.0 lt next (reached k l past small all.1 v.handle.0 there)) in
         let both : AreDifferent (v.handle.0 ∷ minted past) = (fresh, rest) in
         subst (λ o. AreDifferent (with_handle o (minted past))) (sym is) both
+
+-- a well-formed graph has few events
+pub graph-minted-once : (g : Config) (l : Limits) (past : Past) → IsWellFormed g → AllAllowed (declarations_of g) l past → AreDifferent (minted past)
+graph-minted-once g l past formed all =
+    let few = formed.few.events in minted-once (declarations_of g) l past (omega (arith, few)) all

@@ -24,7 +24,7 @@ use Rattle.em_laws.proofs.Lists.{grows-by, arrivals-grow}
 use Rattle.em_laws.proofs.Counts.{occ-none, entered-in-le}
 use Rattle.em_laws.proofs.Spent.{usable, spending-kept, spends-now, minting-kept}
 use Rattle.em_laws.proofs.Tickets.{take-released, nat-le-is, nat-le-false, one_if}
-use Rattle.em_laws.proofs.Entering.{share, entered-share}
+use Rattle.em_laws.proofs.Entering.{times_allowed, entered-allowed}
 
 -- members of lists
 
@@ -258,8 +258,8 @@ send-turn k l now before d f q t st all is = by_enters (enters now (ticket_of_se
     by_enters true on = by_kind on (is_local (kind_of k q.0)) refl
     by_enters false off =
         let few = entered-in-le k now f.0 q.0 in
-        let mine = entered-share k l now all f.0 in
-        let none : share now (spending now f.0) ≡ 0 = ap (share now) is ∙ ap one_if off in
+        let mine = entered-allowed k l now all f.0 in
+        let none : times_allowed now (spending now f.0) ≡ 0 = ap (times_allowed now) is ∙ ap one_if off in
         occ-none f.0 (entered_in k now q.0) (omega (arith, few, mine, none))
 
 turn : (k : Declarations) (l : Limits) (now before : Past) (d : ℕ) (w : What) → AllAllowed k l now → Moment k l before d w

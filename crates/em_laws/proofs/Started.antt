@@ -73,9 +73,9 @@ data Tracked (k : Declarations) (past : Past) (q c : ℕ) : Type 0 where
       → gone k past q c ≤ length (arrivals k past q c) → Tracked k past q c
 
 -- an entry of a core that has nothing of the list leaves it
-aside : (k : Declarations) (past : Past) (d : ℕ) (w : What) (q c : ℕ) → (Holds k past q c d → ⊥) → (Holds k (entry_by d w ∷ past) q c d → ⊥)
+tracked-without : (k : Declarations) (past : Past) (d : ℕ) (w : What) (q c : ℕ) → (Holds k past q c d → ⊥) → (Holds k (entry_by d w ∷ past) q c d → ⊥)
     → starts k (entry_by d w ∷ past) q c ≡ starts k past q c → gone k (entry_by d w ∷ past) q c ≡ gone k past q c → Tracked k past q c → Tracked k (entry_by d w ∷ past) q c
-aside k past d w q c not_before not_after same_starts same_gone (Idle none track bound) =
+tracked-without k past d w q c not_before not_after same_starts same_gone (Idle none track bound) =
     let f = front-kept k past (entry_by d w) q c (gone k past q c) bound in
     Idle (λ e h. nobody e h (compared d e)) (same_starts ∙ track ∙ sym f.front ∙ ap (λ n. take n (map shown_item (arrivals k (entry_by d w ∷ past) q c))) (sym same_gone))
     (rw same_gone f.bound)
@@ -83,7 +83,7 @@ aside k past d w q c not_before not_after same_starts same_gone (Idle none track
     nobody : (e : ℕ) → Holds k (entry_by d w ∷ past) q c e → Compared d e → ⊥
     nobody e h (Same t same) = not_after (subst (λ n. Holds k (entry_by d w ∷ past) q c n) (sym same) h)
     nobody e h (Other f _) = none e ((rw f at h.0.0, rw f at h.0.1), h.1)
-aside k past d w q c not_before not_after same_starts same_gone (Busy b holding only track bound) = by_test (compared d b)
+tracked-without k past d w q c not_before not_after same_starts same_gone (Busy b holding only track bound) = by_test (compared d b)
   where
     alone : (e : ℕ) → Holds k (entry_by d w ∷ past) q c e → Compared d e → e ≡ b
     alone e h (Same t same) = absurd (not_after (subst (λ n. Holds k (entry_by d w ∷ past) q c n) (sym same) h))
@@ -101,15 +101,15 @@ aside k past d w q c not_before not_after same_starts same_gone (Busy b holding 
         (rw same_gone g.bound)
 
 -- an entry that is of no matter to what is taken leaves it
-keep : (k : Declarations) (past : Past) (d : ℕ) (w : What) (q c : ℕ) → ((e : ℕ) → taken k (entry_by d w ∷ past) e ≡ taken k past e)
+tracked-kept : (k : Declarations) (past : Past) (d : ℕ) (w : What) (q c : ℕ) → ((e : ℕ) → taken k (entry_by d w ∷ past) e ≡ taken k past e)
     → ((e : ℕ) → take_queue (entry_by d w ∷ past) e ≡ take_queue past e)
     → starts k (entry_by d w ∷ past) q c ≡ starts k past q c → gone k (entry_by d w ∷ past) q c ≡ gone k past q c → Tracked k past q c → Tracked k (entry_by d w ∷ past) q c
-keep k past d w q c same_taken same_queue same_starts same_gone (Idle none track bound) =
+tracked-kept k past d w q c same_taken same_queue same_starts same_gone (Idle none track bound) =
     let f = front-kept k past (entry_by d w) q c (gone k past q c) bound in
     Idle (λ e h. none e ((λ is. h.0.0 (same_taken e ∙ is), sym (same_queue e) ∙ h.0.1), h.1))
     (same_starts ∙ track ∙ sym f.front ∙ ap (λ n. take n (map shown_item (arrivals k (entry_by d w ∷ past) q c))) (sym same_gone))
     (rw same_gone f.bound)
-keep k past d w q c same_taken same_queue same_starts same_gone (Busy b holding only track bound) =
+tracked-kept k past d w q c same_taken same_queue same_starts same_gone (Busy b holding only track bound) =
     let g = front-kept k past (entry_by d w) q c (gone k past q c) bound in
     Busy b ((λ e. holding.0.0 (sym (same_taken b) ∙ e), same_queue b ∙ holding.0.1), holding.1)
     (λ e h. only e ((λ is. h.0.0 (same_taken e ∙ is), sym (same_queue e) ∙ h.0.1), h.1))
@@ -118,11 +118,11 @@ keep k past d w q c same_taken same_queue same_starts same_gone (Busy b holding 
     (rw same_gone g.bound)
 
 -- after an entry of the only core that has something of the list
-now-by : (k : Declarations) (past : Past) (d : ℕ) (w : What) (q c : ℕ) → ((e : ℕ) → Holds k past q c e → e ≡ d)
+tracked-by : (k : Declarations) (past : Past) (d : ℕ) (w : What) (q c : ℕ) → ((e : ℕ) → Holds k past q c e → e ≡ d)
     → take_queue (entry_by d w ∷ past) d ≡ Some q → is_for k q c q d ≡ true
     → starts k (entry_by d w ∷ past) q c ++ map shown_item (taken k (entry_by d w ∷ past) d) ≡ take (gone k (entry_by d w ∷ past) q c) (map shown_item (arrivals k (entry_by d w ∷ past) q c))
     → gone k (entry_by d w ∷ past) q c ≤ length (arrivals k (entry_by d w ∷ past) q c) → Tracked k (entry_by d w ∷ past) q c
-now-by k past d w q c only queue own track bound = by_taken (taken k (entry_by d w ∷ past) d) refl
+tracked-by k past d w q c only queue own track bound = by_taken (taken k (entry_by d w ∷ past) d) refl
   where
     other : (e : ℕ) → Holds k (entry_by d w ∷ past) q c e → Compared d e → e ≡ d
     other e h (Same t same) = sym same
@@ -177,9 +177,9 @@ shown-again past x e s is stamp =
 
 -- who holds a list has it as the list of his last take
 holds-for : (k : Declarations) (past : Past) (q c d r : ℕ) → take_queue past d ≡ Some r → is_for k q c r d ≡ false → Holds k past q c d → ⊥
-holds-for k past q c d r queue aside h =
+holds-for k past q c d r queue outside h =
     let same : r ≡ q = some-inj _ _ (sym queue ∙ h.0.1) in
-    let other : is_for k q c r d ≡ true = ap (λ i. is_for k q c i d) same ∙ h.1 in absurd (cc (aside, other))
+    let other : is_for k q c r d ≡ true = ap (λ i. is_for k q c i d) same ∙ h.1 in absurd (cc (outside, other))
 
 take-track : (starts L : List Shown) (arr : List Item) (gone n : ℕ) → L ≡ map shown_item arr → starts ≡ take gone L
     → starts ++ map shown_item (take n (drop gone arr)) ≡ take (gone + n) L
@@ -211,7 +211,7 @@ tracked-take k l past d r n t q c all allowed m was = by_list (is_for k q c r.0 
         let f = front-kept k past (entry_by d (What.Take r n t)) q c (gone k past q c + n) fits in
         let gone_now : gone k now q c ≡ gone k past q c + n = rw own refl in
         let taken_now : taken k now d ≡ take n (drop (gone k past q c) (arrivals k past q c)) = if-own d _ _ ∙ ap (take n) waits in
-        now-by k past d (What.Take r n t) q c (λ e h. absurd (none e h)) (if-own d _ _ ∙ ap (λ (i : ℕ). Some i) same) mine
+        tracked-by k past d (What.Take r n t) q c (λ e h. absurd (none e h)) (if-own d _ _ ∙ ap (λ (i : ℕ). Some i) same) mine
         (ap (λ xs. starts k past q c ++ map shown_item xs) taken_now ∙ take-track (starts k past q c) (map shown_item (arrivals k past q c)) (arrivals k past q c) (gone k past q c) n refl track
         ∙ sym f.front ∙ ap (λ i. take i (map shown_item (arrivals k now q c))) (sym gone_now))
         (rw gone_now f.bound)
@@ -219,23 +219,23 @@ tracked-take k l past d r n t q c all allowed m was = by_list (is_for k q c r.0 
     by_list : (b : Bool) → is_for k q c r.0 d ≡ b → Tracked k now q c
     by_list true own = takes own was
     by_list false other =
-        aside k past d (What.Take r n t) q c (λ h. h.0.0 m.ready.between.untaken)
+        tracked-without k past d (What.Take r n t) q c (λ h. h.0.0 m.ready.between.untaken)
         (holds-for k now q c d r.0 (if-own d _ _) other) refl (rw other refl) was
 
 -- who takes from a list is the only one who has something of it
-only-me : (k : Declarations) (past : Past) (q c d : ℕ) → Holds k past q c d → Tracked k past q c → (e : ℕ) → Holds k past q c e → e ≡ d
-only-me k past q c d mine (Idle none track bound) e h = absurd (none d mine)
-only-me k past q c d mine (Busy b holding only track bound) e h = only e h ∙ sym (only d mine)
+only-holder : (k : Declarations) (past : Past) (q c d : ℕ) → Holds k past q c d → Tracked k past q c → (e : ℕ) → Holds k past q c e → e ≡ d
+only-holder k past q c d mine (Idle none track bound) e h = absurd (none d mine)
+only-holder k past q c d mine (Busy b holding only track bound) e h = only e h ∙ sym (only d mine)
 
 -- what is tracked of the core that has something of the list
-record Mine (k : Declarations) (past : Past) (q c d : ℕ) : Type 0 where
+record TrackedBy (k : Declarations) (past : Past) (q c d : ℕ) : Type 0 where
   track : starts k past q c ++ map shown_item (taken k past d) ≡ take (gone k past q c) (map shown_item (arrivals k past q c))
   bound : gone k past q c ≤ length (arrivals k past q c)
 
-mine-is : (k : Declarations) (past : Past) (q c d : ℕ) → Holds k past q c d → Tracked k past q c → Mine k past q c d
-mine-is k past q c d mine (Idle none track bound) = absurd (none d mine)
-mine-is k past q c d mine (Busy b holding only track bound) =
-    subst (λ n. Mine k past q c n) (sym (only d mine)) (record { track = track; bound = bound })
+tracked-of : (k : Declarations) (past : Past) (q c d : ℕ) → Holds k past q c d → Tracked k past q c → TrackedBy k past q c d
+tracked-of k past q c d mine (Idle none track bound) = absurd (none d mine)
+tracked-of k past q c d mine (Busy b holding only track bound) =
+    subst (λ n. TrackedBy k past q c n) (sym (only d mine)) (record { track = track; bound = bound })
 
 tracked-start : (k : Declarations) (l : Limits) (past : Past) (d : ℕ) (r : QueueId) (ev : Event) (s : Option Stamp) (q c : ℕ)
     → StartMoment k past d r.0 ev s → Tracked k past q c → Tracked k (entry_by d (What.Start r ev s) ∷ past) q c
@@ -246,18 +246,18 @@ tracked-start k l past d r ev s q c m was = by_list (is_for k q c r.0 d) refl
 
     by_list : (b : Bool) → is_for k q c r.0 d ≡ b → Tracked k now q c
     by_list false other =
-        aside k past d (What.Start r ev s) q c (holds-for k past q c d r.0 m.queue other)
+        tracked-without k past d (What.Start r ev s) q c (holds-for k past q c d r.0 m.queue other)
         (holds-for k now q c d r.0 (if-own d _ _ ∙ m.queue) other) (rw other refl) refl was
     by_list true own =
         let same : r.0 ≡ q = for-queue k q c r.0 d own in
         let mine : is_for k q c q d ≡ true = subst (λ (i : ℕ). is_for k q c i d ≡ true) same own in
         let holding : Holds k past q c d = ((cons-some m.item _ m.rest m.taken, m.queue ∙ ap (λ (i : ℕ). Some i) same), mine) in
-        let h = mine-is k past q c d holding was in
+        let h = tracked-of k past q c d holding was in
         let f = front-kept k past (entry_by d (What.Start r ev s)) q c (gone k past q c) h.bound in
         let shown = shown-again past m.item ev s m.event m.stamp in
         let starts_now : starts k now q c ≡ starts k past q c ++ shown_item m.item ∷ [] = rw own (ap (λ x. starts k past q c ++ x ∷ []) shown) in
         let taken_now : taken k now d ≡ m.rest = if-own d _ _ ∙ ap (λ xs. drop 1 xs) m.taken in
-        now-by k past d (What.Start r ev s) q c (only-me k past q c d holding was) (if-own d _ _ ∙ m.queue ∙ ap (λ (i : ℕ). Some i) same) mine
+        tracked-by k past d (What.Start r ev s) q c (only-holder k past q c d holding was) (if-own d _ _ ∙ m.queue ∙ ap (λ (i : ℕ). Some i) same) mine
         (ap (λ xs. xs ++ map shown_item (taken k now d)) starts_now ∙ ap (λ xs. (starts k past q c ++ shown_item m.item ∷ []) ++ map shown_item xs) taken_now
         ∙ append_assoc (starts k past q c) (shown_item m.item ∷ []) (map shown_item m.rest)
         ∙ ap (λ xs. starts k past q c ++ map shown_item xs) (sym m.taken) ∙ h.track ∙ sym f.front)
@@ -268,7 +268,7 @@ given-back : (k : Declarations) (past : Past) (d : ℕ) (w : What) (q c n : ℕ)
     → starts k (entry_by d w ∷ past) q c ≡ starts k past q c → gone k (entry_by d w ∷ past) q c ≡ gone k past q c - n
     → taken k (entry_by d w ∷ past) d ≡ [] → take_queue (entry_by d w ∷ past) d ≡ take_queue past d → Tracked k past q c → Tracked k (entry_by d w ∷ past) q c
 given-back k past d w q c n holding size same_starts gone_now none same_queue was =
-    let h = mine-is k past q c d holding was in
+    let h = tracked-of k past q c d holding was in
     let less : gone k past q c - n ≤ length (arrivals k past q c) = let b = h.bound in omega (arith, b) in
     let f = front-kept k past (entry_by d w) q c (gone k past q c - n) less in
     let fits : gone k past q c ≤ length (map shown_item (arrivals k past q c)) = rw length-map h.bound in
@@ -276,7 +276,7 @@ given-back k past d w q c n holding size same_starts gone_now none same_queue wa
     let left : starts k past q c ++ [] ≡ take (gone k past q c - n) (map shown_item (arrivals k past q c)) =
     without-last (starts k past q c) (map shown_item (taken k past d)) (map shown_item (arrivals k past q c)) (gone k past q c) h.track fits
     ∙ ap (λ i. take (gone k past q c - i) (map shown_item (arrivals k past q c))) (sym size2) in
-    now-by k past d w q c (only-me k past q c d holding was) (same_queue ∙ holding.0.1) holding.1
+    tracked-by k past d w q c (only-holder k past q c d holding was) (same_queue ∙ holding.0.1) holding.1
     (ap (λ xs. starts k (entry_by d w ∷ past) q c ++ map shown_item xs) none ∙ ap (λ xs. xs ++ []) same_starts ∙ left
     ∙ sym f.front ∙ ap (λ i. take i (map shown_item (arrivals k (entry_by d w ∷ past) q c))) (sym gone_now))
     (rw gone_now f.bound)
@@ -290,7 +290,7 @@ tracked-untake k l past d r n q c m was = by_list (is_for k q c r.0 d) refl
 
     by_list : (b : Bool) → is_for k q c r.0 d ≡ b → Tracked k now q c
     by_list false other =
-        aside k past d (What.Untake r n) q c (holds-for k past q c d r.0 m.queue other)
+        tracked-without k past d (What.Untake r n) q c (holds-for k past q c d r.0 m.queue other)
         (holds-for k now q c d r.0 (if-own d _ _ ∙ m.queue) other) refl (rw other refl) was
     by_list true own =
         let same : r.0 ≡ q = for-queue k q c r.0 d own in
@@ -314,7 +314,7 @@ tracked-end_atomic k l past d rest cells q c all m was = by_taken (taken k past 
 
     by_list : (r : ℕ) → receives_from past d ≡ Some r → (x : Item) (xs : List Item) → taken k past d ≡ x ∷ xs → (b : Bool) → is_for k q c r d ≡ b → Tracked k now q c
     by_list r from x xs some false other =
-        aside k past d (What.EndAtomic rest cells) q c (holds-for k past q c d r (receives-queue k l past all d r from) other)
+        tracked-without k past d (What.EndAtomic rest cells) q c (holds-for k past q c d r (receives-queue k l past all d r from) other)
         (λ h. h.0.0 empty) refl (rw (from, other) refl) was
     by_list r from x xs some true own =
         let same : r ≡ q = for-queue k q c r d own in
@@ -324,7 +324,7 @@ tracked-end_atomic k l past d rest cells q c all m was = by_taken (taken k past 
 
     by_taken : (xs : List Item) → taken k past d ≡ xs → (o : Option ℕ) → receives_from past d ≡ o → Tracked k now q c
     by_taken [] none o from =
-        aside k past d (What.EndAtomic rest cells) q c (λ h. h.0.0 none) (λ h. h.0.0 empty) refl
+        tracked-without k past d (What.EndAtomic rest cells) q c (λ h. h.0.0 none) (λ h. h.0.0 empty) refl
         (none-less (option_map_or (λ r. is_for k q c r d) (receives_from past d) false) (gone k past q c) rest (m.counted ∙ ap length none)) was
     by_taken (x ∷ xs) some None from =
         let no_atomic : received_atomic k past d ≡ None = ap (option_and_then (atomic_of k)) from in
@@ -351,12 +351,12 @@ next-tracked k l past d (What.Start r e s) q c served all allowed m was = tracke
 next-tracked k l past d (What.Untake r n) q c served all allowed m was = tracked-untake k l past d r n q c m was
 next-tracked k l past d (What.EndAtomic rest cells) q c served all allowed m was = tracked-end_atomic k l past d rest cells q c all m was
 next-tracked k l past d (What.Dequeue r None) q c served all allowed m was =
-    keep k past d (What.Dequeue r None) q c (λ e. if-same (d == e) _) (λ e. if-same (d == e) _) refl refl was
+    tracked-kept k past d (What.Dequeue r None) q c (λ e. if-same (d == e) _) (λ e. if-same (d == e) _) refl refl was
 next-tracked k l past d (What.Dequeue r (Some v)) q c served all allowed m was =
     let other : is_for k q c r.0 d ≡ false = not-true _ (λ own.
     unscheduled-not_served (kind_of k r.0) m.unscheduled (ap (λ (i : ℕ). is_served (kind_of k i)) (for-queue k q c r.0 d own) ∙ served)) in
-    keep k past d (What.Dequeue r (Some v)) q c (λ e. if-same (d == e) _) (λ e. if-same (d == e) _) refl (rw other refl) was
-next-tracked k l past d w q c served all allowed m was = keep k past d w q c (λ e. if-same (d == e) _) (λ e. if-same (d == e) _) refl refl was
+    tracked-kept k past d (What.Dequeue r (Some v)) q c (λ e. if-same (d == e) _) (λ e. if-same (d == e) _) refl (rw other refl) was
+next-tracked k l past d w q c served all allowed m was = tracked-kept k past d w q c (λ e. if-same (d == e) _) (λ e. if-same (d == e) _) refl refl was
 
 tracked : (k : Declarations) (l : Limits) (past : Past) (q c : ℕ) → is_served (kind_of k q) ≡ true → AllAllowed k l past → Tracked k past q c
 tracked k l [] q c served all = Idle (λ d h. h.0.0 refl) refl (omega arith)

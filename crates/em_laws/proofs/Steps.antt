@@ -108,18 +108,18 @@ global-ends k past d op ok held (GlobalStopDone before lost cells was is e) =
     (record { closed = ended-closed before d lost cells; finishing = finishing-stop k before d lost cells op (c.steps d _ is) })
 
 -- what stands stays, where the entry is of no matter to it
-keep : (k : Declarations) (l : Limits) (past : Past) (c d : ℕ) (w : What) (b : Body) → AllAllowed k l past → Moment k l past d w
+step-kept : (k : Declarations) (l : Limits) (past : Past) (c d : ℕ) (w : What) (b : Body) → AllAllowed k l past → Moment k l past d w
     → ((n : ℕ) → global_done (entry_by d w ∷ past) n ≡ global_done past n)
     → ((n : ℕ) → has (acked past n) c ≡ false → has (acked (entry_by d w ∷ past) n) c ≡ false)
     → InStep k past c b → InStep k (entry_by d w ∷ past) c b
-keep k l past c d w b all m global acks (InBoot e) = InBoot e
-keep k l past c d w b all m global acks (InGlobalStart n o x e is job none core) =
+step-kept k l past c d w b all m global acks (InBoot e) = InBoot e
+step-kept k l past c d w b all m global acks (InGlobalStart n o x e is job none core) =
     InGlobalStart n o x e (begun-kept k l past d w n o all m is) job (global n ∙ none) core
-keep k l past c d w b all m global acks (InLocalStart n o x e is job done un) =
+step-kept k l past c d w b all m global acks (InLocalStart n o x e is job done un) =
     InLocalStart n o x e (begun-kept k l past d w n o all m is) job (global n ∙ done) (acks n un)
-keep k l past c d w b all m global acks (InLocalStop n o x e is job un) =
+step-kept k l past c d w b all m global acks (InLocalStop n o x e is job un) =
     InLocalStop n o x e (begun-kept k l past d w n o all m is) job (acks n un)
-keep k l past c d w b all m global acks (InGlobalStop n o x e is job none done last) =
+step-kept k l past c d w b all m global acks (InGlobalStop n o x e is job none done last) =
     InGlobalStop n o x e (begun-kept k l past d w n o all m is) job (global n ∙ none) (all-acked-more k past d w n done) (last-kept k past d w n c last)
 
 has-other : (d : ℕ) (ms : List ℕ) (c : ℕ) → d ≢ c → has ms c ≡ false → has (d ∷ ms) c ≡ false
@@ -180,10 +180,10 @@ global-other k l past c d op ok b all m f ne (InGlobalStop n o x e is job none d
 
 other-steps : (k : Declarations) (l : Limits) (past : Past) (c d : ℕ) (w : What) (b : Body) → AllAllowed k l past → Always (Contexts k) past
     → Moment k l past d w → d ≢ c → InStep k past c b → InStep k (entry_by d w ∷ past) c b
-other-steps k l past c d (What.Ack op) b all held m ne s = keep k l past c d (What.Ack op) b all m (λ n. refl) (ack-other past d c op ne) s
+other-steps k l past c d (What.Ack op) b all held m ne s = step-kept k l past c d (What.Ack op) b all m (λ n. refl) (ack-other past d c op ne) s
 other-steps k l past c d (What.GlobalDone op ok) b all held m ne s =
     global-other k l past c d op ok b all m (global-ends k past d op ok held m).finishing ne s
-other-steps k l past c d w b all held m ne s = keep k l past c d w b all m (λ n. refl) (λ n h. h) s
+other-steps k l past c d w b all held m ne s = step-kept k l past c d w b all m (λ n. refl) (λ n h. h) s
 
 entered-steps : (k : Declarations) (past : Past) (c : ℕ) (b : Body) → EnterMoment k past c b → InStep k (entry_by c (What.Enter b) ∷ past) c b
 entered-steps k past c b (EntersBoot none core e) = InBoot e
@@ -206,7 +206,7 @@ own-steps k l past c (What.End lost cells) b all held m h = absurd cc
 own-steps k l past c (What.Ack op) b all held m h = absurd (none-some _ (sym (acker-idle k past c op held m).closed ∙ h))
 own-steps k l past c (What.GlobalDone op ok) b all held m h = absurd (none-some _ (sym (global-ends k past c op ok held m).closed ∙ h))
 own-steps k l past c w b all held m h =
-    keep k l past c c w b all m (λ n. refl) (λ n h. h) ((always-here (Contexts k) past held).steps c b h)
+    step-kept k l past c c w b all m (λ n. refl) (λ n h. h) ((always-here (Contexts k) past held).steps c b h)
 
 own-untaken : (k : Declarations) (l : Limits) (past : Past) (c : ℕ) (w : What) (b : Body) → Contexts k past
     → Moment k l past c w → context_after w (context past c) ≡ Some (What.Enter b) → taken_after k past c w (taken k past c) ≡ []

@@ -5,8 +5,11 @@ ghost use Rattle.em_log.specs.declared.entry.Entry.{Entry};
 ghost use Rattle.em_log.specs.declared.entry.What.{What};
 ghost use Rattle.em_log.specs.declared.fault.Fault.{Fault};
 ghost use Rattle.em_log.specs.declared.fault.Call.{Call};
+ghost use Rattle.em_log.specs.declared.graph.Config.{Config};
 ghost use Rattle.em_log.specs.declared.ids.EoId.{EoId};
 ghost use Rattle.em_log.specs.declared.ids.Limits.{Limits};
+ghost use Rattle.em_log.specs.Declarations.{declarations_of};
+ghost use Rattle.em_log.specs.WellFormed.{IsWellFormed};
 ghost use Rattle.em_log.specs.History.{Past, entry_by, onto};
 ghost use Rattle.em_log.specs.Tails.{tail};
 ghost use Rattle.em_log.specs.Lawful.{Begins, AllAllowed, Lawful, due};
@@ -17,6 +20,12 @@ ghost use Rattle.em_laws.specs.Unchanged.{IsUnchanged};
 /// No handle is minted twice, where the indices of all events are below 65,536.
 pub fn minted_once()
     ensures { (k : Declarations) (l : Limits) (past : Past) → HasSmallIndices k → Lawful k l past → AreDifferent (minted past) }
+{}
+
+/// No handle is minted twice in a lawful history of a well-formed graph.
+pub fn minted_once_of_graph()
+    ensures { (graph : Config) (l : Limits) (past : Past) → IsWellFormed graph → Lawful (declarations_of graph) l past
+        → AreDifferent (minted past) }
 {}
 
 /// A refusal changes no part: every place, arrival, holder, state, mask, owed step and count stands as before it.
