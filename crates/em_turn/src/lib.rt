@@ -3,6 +3,8 @@
 
 mod gates;
 mod steps;
+#[cfg(test)]
+mod tests;
 mod turn;
 mod view;
 
