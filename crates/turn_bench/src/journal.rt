@@ -15,7 +15,7 @@ const MOST: usize = 1000;
 pub struct Journal {
     declarations: Declarations,
     limits: Limits,
-    entries: Vec<Entry>,
+    pub entries: Vec<Entry>,
     last: u64,
 }
 
@@ -46,10 +46,6 @@ impl Journal {
             entries: Vec::new(alloc),
             last: 0,
         }
-    }
-
-    pub fn len(&self) -> usize {
-        self.entries.len()
     }
 
     /// Adds an entry of this core, and says whether there was room and memory for it.

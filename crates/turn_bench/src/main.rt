@@ -45,5 +45,5 @@ fn print_four_threads<R: Alloc<A = Global> + Print + Threads + Wait + Sync>(
     };
     let first = take_in_threads(rt, &lock, first, 1, 4, plan);
     let journal = lock.close(first);
-    println!(rt; "four threads added {} entries", journal.len())
+    println!(rt; "four threads added {} entries", journal.entries.len())
 }

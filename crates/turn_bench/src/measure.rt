@@ -89,7 +89,9 @@ pub fn print_turns<R: Alloc<A = Global> + Clock + Print + Threads + Wait + Sync>
 fn print_line(rt: &impl Print, threads: u8, plan: Plan, lock: u64, mutex: u64) -> io::Result<()>
     requires { (0 < lock) × (0 < mutex) }
 {
-    let all = (threads as u64 * plan.turns as u64).saturating_mul(RUNS as u64);
+    let all = (threads as u64 * plan.turns as u64)
+        .saturating_mul(RUNS as u64)
+        .max(1);
     let rate = |nanos: u64| all.saturating_mul(1_000_000_000) / nanos;
     let ratio = lock.saturating_mul(100) / mutex;
     let work = if plan.rounds == 0 {
@@ -98,8 +100,9 @@ fn print_line(rt: &impl Print, threads: u8, plan: Plan, lock: u64, mutex: u64) -
         "1 us of work"
     };
     println!(rt;
-        "{threads:2} threads, {work:12}: {:9} turns/s, Mutex {:9} turns/s, ratio {}.{:02}",
+        "{threads:2} threads, {work:12}: {:9} turns/s ({:6} ns a turn), Mutex {:9} turns/s, ratio {}.{:02}",
         rate(lock),
+        lock / all,
         rate(mutex),
         ratio / 100,
         ratio % 100

@@ -1,6 +1,6 @@
 use Rattle.std.proofs.Common.{◌≡◌, ◌++◌, ◌∷◌, [], map, cond, Bool, true, false, List, ℕ, refl, sym, ap, ◌∙◌, subst, inl, append-nil}
 use Rattle.std.proofs.lemmas.List.{map-append}
-use Rattle.em_log.specs.Items.{Item, Logged, number_of}
+use Rattle.em_log.specs.Items.{Logged}
 use Rattle.em_log.specs.declared.entry.Entry.{Entry}
 use Rattle.em_log.specs.declared.entry.What.TheVariants.{Say}
 use Rattle.em_turn.specs.Numbers.{In, OnlyOf}
