@@ -124,7 +124,7 @@ module _ {V : Type 0} (items : V → List Item) (fixed_of : V → Fixed) where
           lists_moved items fixed_of s l id v w (set s.words 0 (get_or s.words 0 0)) s.homes l.log at refl refl l.home
               (fits_view items fixed_of l.log l.fixed v.own v.fixed v.turns v.parts v.stage v.ticket (f.same lives) (f.named lives) f.whole f.own) (λ j u ne e. l.fits j u e) l.below,
         ),
-        (refl, after_check l.log v.own v.first f.own f.first f.first_short, after_check l.log v.own v.second f.own f.second f.second_short),
+        (refl, after_check l.log v.own v.first f.own f.first f.first_short, after_check l.log v.own v.second f.own f.second f.second_short, f.other_same lives ∙ sym (f.same lives)),
       )
 
   -- with all parts in one idle seat, the slot is at home

@@ -42,6 +42,7 @@ module _ {V : Type 0} (items : V → List Item) (fixed_of : V → Fixed) where
   pub fits_view : (log : List Item) (fixed : Fixed) (own : Claim) (f : Fixed) (turns parts : ℕ) (stage : Stage) (ticket : ℕ) → f ≡ fixed → 0 < length own.numbers → (stage ≡ Inside → own.seen ≡ log) → After log own → Fits log fixed (view_of own f turns parts stage ticket)
   fits_view log fixed own f turns parts stage ticket same named whole after = record {
     same = λ _. same;
+    other_same = λ _. same;
     named = λ _. named;
     whole = whole;
     own = after;
@@ -56,6 +57,7 @@ module _ {V : Type 0} (items : V → List Item) (fixed_of : V → Fixed) where
   pub fits_more : (log added : List Item) (fixed : Fixed) (u : Known) (ns : List ℕ) → Fits log fixed u → u.stage ≢ Inside → OnlyOf ns added → ((n : ℕ) → In n ns → In n u.own.numbers → ⊥) → Fits (log ++ added) fixed u
   fits_more log added fixed u ns f not only apart = record {
     same = f.same;
+    other_same = f.other_same;
     named = f.named;
     whole = λ e. absurd (not e);
     own = after_more log added u.own f.own (only_none ns u.own.numbers added apart only);
@@ -177,9 +179,9 @@ module _ {V : Type 0} (items : V → List Item) (fixed_of : V → Fixed) (s : St
     fixed = l.fixed;
     home = l.home;
     fits = each_set (Fits l.log l.fixed) (set s.views id B) other spent
-        record { same = λ h. absurd (omega arith); named = λ h. absurd (omega arith); whole = λ e. absurd (idle-inside Idle refl e); own = after_nothing l.log; first = after_nothing l.log; second = after_nothing l.log; first_in = λ n h. absurd h; second_in = λ n h. absurd h; first_short = omega arith; second_short = omega arith }
+        record { same = λ h. absurd (omega arith); other_same = λ h. absurd (omega arith); named = λ h. absurd (omega arith); whole = λ e. absurd (idle-inside Idle refl e); own = after_nothing l.log; first = after_nothing l.log; second = after_nothing l.log; first_in = λ n h. absurd h; second_in = λ n h. absurd h; first_short = omega arith; second_short = omega arith }
         (λ j u _ e. each_set (Fits l.log l.fixed) s.views id B
-        record { same = λ _. f.same lives; named = λ _. (let a = f.named lives in omega (arith, length-append v.own.numbers w.own.numbers)); whole = λ e. absurd (idle-inside Idle refl e); own = both.0; first = f.own; second = g.own; first_in = λ n h. in_first n v.own.numbers w.own.numbers h; second_in = λ n h. in_second n v.own.numbers w.own.numbers h; first_short = both.1; second_short = both.2 }
+        record { same = λ _. f.same lives; other_same = λ _. g.same lives'; named = λ _. (let a = f.named lives in omega (arith, length-append v.own.numbers w.own.numbers)); whole = λ e. absurd (idle-inside Idle refl e); own = both.0; first = f.own; second = g.own; first_in = λ n h. in_first n v.own.numbers w.own.numbers h; second_in = λ n h. in_second n v.own.numbers w.own.numbers h; first_short = both.1; second_short = both.2 }
         (λ j u _ e. l.fits j u e) j u e);
     alone = join_pairs;
     bounds = join_bounds;

@@ -46,9 +46,10 @@ pub record Tickets {V : Type 0} (s : State (Option V) Known) : Type 0 where
 -- The lists
 
 -- what a seat knows of the list and of the fixed part. A seat that is not spent has a number and the fixed part, and with the turn it has seen the whole list.
--- Until the check the list goes on from those of both seats of a join, neither is longer than the one kept, and their numbers were kept
+-- Until the check the list goes on from those of both seats of a join, neither is longer than the one kept, their numbers were kept, and the second had the fixed part
 pub record Fits (log : List Item) (fixed : Fixed) (v : Known) : Type 0 where
   pub same : 0 < v.parts → v.fixed ≡ fixed
+  pub other_same : 0 < v.parts → v.other ≡ fixed
   pub named : 0 < v.parts → 0 < length v.own.numbers
   pub whole : v.stage ≡ Inside → v.own.seen ≡ log
   pub own : After log v.own

@@ -5,7 +5,7 @@
 --   pass on  adds 1 to SERVING, and the slot comes home
 --   split    reads TICKET: a new seat gets the next number
 --   join     reads TICKET: one seat gets what two had, and the other is spent
---   check    reads TICKET after a join, and tells that the list seen goes on from those of both seats
+--   check    reads TICKET after a join, and tells that the list seen goes on from those of both seats, which have one fixed part
 -- There are no others. Between a look and a pass on the value is moved out of the slot and into it again, which changes no view.
 use Rattle.std.specs.Prelude.{◌≡◌, ◌≢◌, ℕ, ◌+◌, ◌-◌, List, [], ◌∷◌, ◌++◌, Option, Some, None}
 use Rattle.atomic_table.specs.Table.{Me, Step}
@@ -44,6 +44,7 @@ united v w =
       first = v.own;
       second = w.own;
       fixed = v.fixed;
+      other = w.fixed;
       turns = v.turns;
       parts = v.parts + w.parts;
       stage = Idle;
@@ -89,6 +90,6 @@ module _ {V : Type 0} (items : V → List Item) where
   abbrev pub Passes : Step (Option V) → Seated V → ℕ → Seated V → Type 0
   Passes st m n m' = m' ≡ (passed m.0 (list_of m.1), [])
 
--- the list seen goes on from those of both seats of the join, without items of their numbers
+-- the list seen goes on from those of both seats of the join, without items of their numbers, and both have one fixed part
 abbrev pub Checks : {V : Type 0} → Step (Option V) → Seated V → ℕ → Seated V → Type 0
-Checks st m n m' = (m' ≡ (checked m.0, m.1)) × After m.0.own.seen m.0.first × After m.0.own.seen m.0.second
+Checks st m n m' = (m' ≡ (checked m.0, m.1)) × After m.0.own.seen m.0.first × After m.0.own.seen m.0.second × (m.0.other ≡ m.0.fixed)

@@ -11,13 +11,15 @@ pub data Stage : Type 0 where
   Waiting : Stage
   Inside : Stage
 
--- `own` has the seat's numbers and the list that it has seen. Between a join and its check `first` and `second` are those of the two seats.
+-- `own` has the seat's numbers and the list that it has seen. Between a join and its check `first` and `second` are those of the two seats,
+-- and `other` is the fixed part of the second.
 -- A seat stands for `parts` seats, itself and those that may still be split off it, and a spent seat for none. `turns` counts its draws
 pub record Known : Type 0 where
   pub own : Claim
   pub first : Claim
   pub second : Claim
   pub fixed : Fixed
+  pub other : Fixed
   pub turns : ℕ
   pub parts : ℕ
   pub stage : Stage
@@ -28,7 +30,7 @@ nothing = claim [] []
 
 -- the view of a seat that has no join to check
 abbrev pub view_of : Claim → Fixed → ℕ → ℕ → Stage → ℕ → Known
-view_of own fixed turns parts stage ticket = record { own = own; first = nothing; second = nothing; fixed = fixed; turns = turns; parts = parts; stage = stage; ticket = ticket }
+view_of own fixed turns parts stage ticket = record { own = own; first = nothing; second = nothing; fixed = fixed; other = fixed; turns = turns; parts = parts; stage = stage; ticket = ticket }
 
 -- 1 where the seat has a ticket
 abbrev pub tickets_at : Stage → ℕ

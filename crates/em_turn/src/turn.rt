@@ -97,12 +97,13 @@ impl<V: Listed> Turn<V> {
         TurnSeat { seat: new }
     }
 
-    /// Takes in another seat. The seat has then seen the longer of the two lists, which goes on from both.
+    /// Takes in another seat. The seat has then seen the longer of the two lists, which goes on from both. Both had one fixed part.
     pub fn join(&self, seat: &mut TurnSeat<V>, other: TurnSeat<V>)
         requires here { (seat.old.turn ≡ self.now) × (seat.old.inside ≡ false) }
         requires other { (other.turn ≡ self.now) × (other.inside ≡ false) }
         ensures seat { seat.new ≡ joined seat.old other }
         ensures lists { GoesOn seat.new.seen seat.old × GoesOn seat.new.seen other }
+        ensures fixed { other.fixed ≡ seat.old.fixed }
     {
         let TurnSeat { seat: spent } = other;
         self.table
