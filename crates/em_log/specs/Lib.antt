@@ -21,3 +21,6 @@ pub mod Allowance
 pub mod LocalEntries
 pub mod Answers
 pub mod Laws
+pub mod Names
+pub mod Weights
+pub mod WellFormed
