@@ -5,7 +5,7 @@ use Rattle.em_log.specs.declared.ids.Limits.{Limits}
 use Rattle.em_log.specs.declared.graph.Config.{Config}
 use Rattle.em_log.specs.Declarations.{declarations_of}
 use Rattle.em_log.specs.Eligible.{is_quiet, is_at_limit}
-use Rattle.em_log.specs.Legal.{IsLegal}
+use Rattle.em_log.specs.Legal.{IsLegal, IsLawful}
 
 -- the history is legal, and at its end nothing is left to do
 pub record IsLegalUntilQuiet (g : Config) (l : Limits) (history : List Entry) : Type 0 where
@@ -16,3 +16,7 @@ pub record IsLegalUntilQuiet (g : Config) (l : Limits) (history : List Entry) : 
 pub record IsLegalUntilLimit (g : Config) (l : Limits) (history : List Entry) : Type 0 where
   pub legal : IsLegal g l history
   pub limit : IsTrue (is_at_limit (declarations_of g) l (reverse history))
+
+-- the history is not lawful
+abbrev pub IsUnlawful : Config → Limits → List Entry → Type 0
+IsUnlawful g l history = IsLawful (declarations_of g) l history → ⊥

@@ -2,7 +2,7 @@
 //! contracts say so.
 #![tactic(auto)]
 
-ghost use Rattle.em_histories.specs.Ends.{IsLegalUntilQuiet, IsLegalUntilLimit};
+ghost use Rattle.em_histories.specs.Ends.{IsLegalUntilQuiet, IsLegalUntilLimit, IsUnlawful};
 ghost use Rattle.em_histories.specs.worked.OneEvent as one_event;
 ghost use Rattle.em_histories.specs.worked.OneEventAtTheLimit as one_event_at_the_limit;
 ghost use Rattle.em_histories.specs.worked.OnlyBoot as only_boot;
@@ -63,6 +63,23 @@ ghost use Rattle.em_histories.specs.further.QueuesPassedOverWhileAMaskShrinks as
 ghost use Rattle.em_histories.specs.further.ReleasedByEarlyAndLateEnds as released_by_early_and_late_ends;
 ghost use Rattle.em_histories.specs.further.StepsOfTheLeastOperationFirst as steps_of_the_least_operation_first;
 ghost use Rattle.em_histories.specs.further.StopAndStartOfTwoObjectsOnThreeCores as stop_and_start_of_two_objects_on_three_cores;
+ghost use Rattle.em_histories.specs.wrong.ReleasedInTheWrongOrder as released_in_the_wrong_order;
+ghost use Rattle.em_histories.specs.wrong.ReleasedBeforeItsTicketIsTheFirst as released_before_its_ticket_is_the_first;
+ghost use Rattle.em_histories.specs.wrong.HeldSendThatNeverEnters as held_send_that_never_enters;
+ghost use Rattle.em_histories.specs.wrong.AcknowledgedWhileAReceiveRuns as acknowledged_while_a_receive_runs;
+ghost use Rattle.em_histories.specs.wrong.DoneBeforeAllHaveAcknowledged as done_before_all_have_acknowledged;
+ghost use Rattle.em_histories.specs.wrong.MaskInForceBeforeAllHaveAcknowledged as mask_in_force_before_all_have_acknowledged;
+ghost use Rattle.em_histories.specs.wrong.LocalStopEnteredWhileAReceiveRuns as local_stop_entered_while_a_receive_runs;
+ghost use Rattle.em_histories.specs.wrong.StaleHandleFreed as stale_handle_freed;
+ghost use Rattle.em_histories.specs.wrong.SpentHandleSent as spent_handle_sent;
+ghost use Rattle.em_histories.specs.wrong.HandleGivenAgain as handle_given_again;
+ghost use Rattle.em_histories.specs.wrong.LowerPriorityTaken as lower_priority_taken;
+ghost use Rattle.em_histories.specs.wrong.AtomicGroupHeldByTwoCores as atomic_group_held_by_two_cores;
+ghost use Rattle.em_histories.specs.wrong.TakenFromADisabledQueue as taken_from_a_disabled_queue;
+ghost use Rattle.em_histories.specs.wrong.MoreReceivesThanTheLimit as more_receives_than_the_limit;
+ghost use Rattle.em_histories.specs.wrong.NotifiedTwice as notified_twice;
+ghost use Rattle.em_histories.specs.wrong.AbortedApplicationNotifies as aborted_application_notifies;
+ghost use Rattle.em_histories.specs.wrong.ReceivedAgainAfterGivingBack as received_again_after_giving_back;
 
 /// Each of these histories is legal, and ends as its subject wants: with nothing left to do, or at the limit on
 /// receives.
@@ -132,4 +149,26 @@ pub fn further_histories()
     ensures released_by_early_and_late_ends { IsLegalUntilLimit released_by_early_and_late_ends.graph released_by_early_and_late_ends.limits released_by_early_and_late_ends.history }
     ensures steps_of_the_least_operation_first { IsLegalUntilQuiet steps_of_the_least_operation_first.graph steps_of_the_least_operation_first.limits steps_of_the_least_operation_first.history }
     ensures stop_and_start_of_two_objects_on_three_cores { IsLegalUntilQuiet stop_and_start_of_two_objects_on_three_cores.graph stop_and_start_of_two_objects_on_three_cores.limits stop_and_start_of_two_objects_on_three_cores.history }
+{}
+
+/// In each of these histories one entry is wrong, so it is not lawful under the graph and the limits that it is told
+/// of.
+pub fn wrong_histories()
+    ensures released_in_the_wrong_order { IsUnlawful three_ordered_contexts_end_out_of_order.graph three_ordered_contexts_end_out_of_order.limits released_in_the_wrong_order.history }
+    ensures released_before_its_ticket_is_the_first { IsUnlawful three_ordered_contexts_end_out_of_order.graph three_ordered_contexts_end_out_of_order.limits released_before_its_ticket_is_the_first.history }
+    ensures held_send_that_never_enters { IsUnlawful early_end_of_ordered_processing.graph early_end_of_ordered_processing.limits held_send_that_never_enters.history }
+    ensures acknowledged_while_a_receive_runs { IsUnlawful queue_group_changed_while_a_receive_runs.graph queue_group_changed_while_a_receive_runs.limits acknowledged_while_a_receive_runs.history }
+    ensures done_before_all_have_acknowledged { IsUnlawful queue_group_changed_while_a_receive_runs.graph queue_group_changed_while_a_receive_runs.limits done_before_all_have_acknowledged.history }
+    ensures mask_in_force_before_all_have_acknowledged { IsUnlawful queue_group_changed_while_a_receive_runs.graph queue_group_changed_while_a_receive_runs.limits mask_in_force_before_all_have_acknowledged.history }
+    ensures local_stop_entered_while_a_receive_runs { IsUnlawful object_stopped_while_a_receive_runs.graph object_stopped_while_a_receive_runs.limits local_stop_entered_while_a_receive_runs.history }
+    ensures stale_handle_freed { IsUnlawful freed_twice.graph freed_twice.limits stale_handle_freed.history }
+    ensures spent_handle_sent { IsUnlawful sent_twice.graph sent_twice.limits spent_handle_sent.history }
+    ensures handle_given_again { IsUnlawful pool_empty.graph pool_empty.limits handle_given_again.history }
+    ensures lower_priority_taken { IsUnlawful two_priorities_in_one_atomic_group.graph two_priorities_in_one_atomic_group.limits lower_priority_taken.history }
+    ensures atomic_group_held_by_two_cores { IsUnlawful two_priorities_in_one_atomic_group.graph two_priorities_in_one_atomic_group.limits atomic_group_held_by_two_cores.history }
+    ensures taken_from_a_disabled_queue { IsUnlawful queue_disabled_and_enabled.graph queue_disabled_and_enabled.limits taken_from_a_disabled_queue.history }
+    ensures more_receives_than_the_limit { IsUnlawful limit_of_three.graph limit_of_three.limits more_receives_than_the_limit.history }
+    ensures notified_twice { IsUnlawful application_aborted.graph application_aborted.limits notified_twice.history }
+    ensures aborted_application_notifies { IsUnlawful application_aborted.graph application_aborted.limits aborted_application_notifies.history }
+    ensures received_again_after_giving_back { IsUnlawful burst_given_back_for_a_change.graph burst_given_back_for_a_change.limits received_again_after_giving_back.history }
 {}
