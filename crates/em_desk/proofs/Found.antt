@@ -1,6 +1,6 @@
 -- What one entry more adds to what the desk looks for.
 use Rattle.std.proofs.Common.{◌≡◌, ℕ, suc, ◌∷◌, ◌==◌, Bool, true, false, Option, Some, None, is_some, if◌then◌else◌, refl}
-use Rattle.std.specs.Option.{option_or, option_map}
+use Rattle.std.specs.Option.{option_or, option_map, UnwrapsOrElse, IfSome}
 use Rattle.em_log.specs.declared.entry.Entry.{Entry}
 use Rattle.em_log.specs.declared.entry.Event.{Event}
 use Rattle.em_log.specs.History.{Past, minted_in, index_of}
@@ -47,3 +47,7 @@ last_handle-next e past i = last_handle_by-is i e.core.0 (minted_in e.what) (las
 pub minting-next : (e : Entry) (past : Past) (h : ℕ)
     → option_map the_event (minting (e ∷ past) h) ≡ option_or (event_at h (minted_in e.what)) (option_map the_event (minting past h))
 minting-next e past h = minting_by-is h e.core.0 (minted_in e.what) (minting past h)
+
+pub unwraps : (o : Option Event) (IsDefault : Event → Type 0) (r : Event) → UnwrapsOrElse o IsDefault r → IfSome o (λ e. r ≡ e)
+unwraps None IsDefault r is = tt
+unwraps (Some e) IsDefault r is = is

@@ -1,2 +1,7 @@
 pub mod Newest
 pub mod Found
+pub mod FirstFree
+pub mod Free
+pub mod Without
+pub mod Keeping
+pub mod Fields
