@@ -1,5 +1,5 @@
 -- What is said of the desk's value, said of its fields.
-use Rattle.std.proofs.Common.{◌≡◌, ℕ, false, reverse, None, is_some, refl, ap, sym, ◌∙◌, subst}
+use Rattle.std.proofs.Common.{◌≡◌, ℕ, ◌<◌, false, reverse, None, is_some, refl, ap, sym, ◌∙◌, subst, arith}
 use Rattle.em_log.specs.declared.ask.Ask.{Ask}
 use Rattle.em_log.specs.declared.ask.Reply.{Reply}
 use Rattle.em_log.specs.declared.declarations.Declarations.{Declarations}
@@ -26,7 +26,7 @@ of_fields d t p view is P h =
     subst (λ (s : DeskState). P s.declarations s.past) view
     (subst (λ (k : Declarations). P k (reverse d.log.items)) (sym is) h)
 
-no-step : (p : PoolShape) (past : Past) → operations past ≡ 0 → step (simple p) past 0 ≡ None
+pub no-step : (p : PoolShape) (past : Past) → operations past ≡ 0 → step (simple p) past 0 ≡ None
 no-step p past none = rw none refl
 
 -- an ask that gives this entry, with nothing after it, is answered by adding it
@@ -43,3 +43,10 @@ answered d old new p a w reply view is gives past none answer owed run =
           (owed ∙ sym (ap is_some (no-step p new.past none)));
       run = run;
     }
+
+-- of one core the number is 0
+pub core-first : (d : Inside) (t : DeskState) (p : PoolShape) (c : ℕ) → state_of d ≡ t → d.declarations ≡ simple p
+    → c < t.declarations.cores → c ≡ 0
+core-first d t p c view is below =
+    let one : c < 1 = in_fields d t p view is (λ k h. c < k.cores) below in
+    omega arith

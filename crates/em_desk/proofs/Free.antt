@@ -60,7 +60,7 @@ after-free : (p : PoolShape) (past : Past) (h : ℕ) (before : Past) (d : ℕ) (
 after-free p past h before d (What.Free f) freed is = sym is
 after-free p past h before d (What.Send f q t s) freed is =
     subst (λ (n : ℕ). is_free (if has_entered (simple p) past h n then entered_place (simple p) past h n else Delayed n) ≡ false) (sym is.1)
-        (sent-place p past h (has_entered (simple p) past h 0))
+    (sent-place p past h (has_entered (simple p) past h 0))
     ∙ sym is.0
 after-free p past h before d (What.End lost cells) freed is = sym is
 after-free p past h before d what freed is = absurd is

@@ -94,9 +94,9 @@ left-next p past b w whole is here enough =
     let k = simple p in
     let ls = leads k past 0 in
     let added : leads k (entry_by 0 w ∷ past) 0 ≡ ls ++ record { before = past; what = w } ∷ [] =
-        ap (λ o. leads_after k past o w ls) is ∙ (here ls ∙ ap (λ ds. lead_here ds past w ls) whole) in
+    ap (λ o. leads_after k past o w ls) is ∙ (here ls ∙ ap (λ ds. lead_here ds past w ls) whole) in
     let total : sum_by cost (leads k (entry_by 0 w ∷ past) 0) ≡ sum_by cost ls + sum_by cost (record { before = past; what = w } ∷ []) =
-        ap (sum_by cost) added ∙ sum_by-append cost ls (record { before = past; what = w } ∷ []) in
+    ap (sum_by cost) added ∙ sum_by-append cost ls (record { before = past; what = w } ∷ []) in
     omega (arith, total)
 
 pub spare-next : (p : PoolShape) (past : Past) (now : Bool) (w : What) → due (simple p) past ≡ [] → (o : IsOpen past now)
@@ -295,12 +295,12 @@ send-first p l past handles arrived n now w m k may enough accepted minted =
     let fewer = without-fewer w handles in
     let more = length-append arrived (m.event ∷ []) in
     let gives : e ≡ lead (simple p) past 0 a =
-        ap (λ (t : Option Ticket). What.Send (record { 0 = w }) q (option_map (λ t. t.number) t) None) (sym k.stays.ticket)
-        ∙ own-lead (simple p) past a accepted in
+    ap (λ (t : Option Ticket). What.Send (record { 0 = w }) q (option_map (λ t. t.number) t) None) (sym k.stays.ticket)
+    ∙ own-lead (simple p) past a accepted in
     let handle : m.event.handle.0 ≡ w = minting-handle past w m minted in
     let item : item_of w None (minting past w) ≡ sent_item m.event ∷ [] =
-        ap (item_of w None) minted
-        ∙ ap (λ (h : ℕ). let x : Item = record { handle = h; kind = m.event.kind; words = m.event.words; stamp = None } in x ∷ []) (sym handle) in
+    ap (item_of w None) minted
+    ∙ ap (λ (h : ℕ). let x : Item = record { handle = h; kind = m.event.kind; words = m.event.words; stamp = None } in x ∷ []) (sym handle) in
     record {
       less = omega arith;
       keeps = record {

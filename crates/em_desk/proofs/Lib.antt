@@ -5,3 +5,5 @@ pub mod Free
 pub mod Without
 pub mod Keeping
 pub mod Fields
+pub mod Ready
+pub mod Taking

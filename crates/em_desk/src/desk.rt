@@ -176,6 +176,8 @@ impl Desk {
         requires accepted { refusal self.old.declarations self.old.past core.0 ask ≡ None }
         ensures { IsAnswered self.old self.new core.0 (lead self.old.declarations self.old.past core.0 ask) result }
     {
+        // Read here, so that what the fields stand for is known: there is one core.
+        let _ = &self.declarations;
         match ask {
             Ask::Alloc { pool, kind, words } => self.alloc(pool, kind, words),
             Ask::Free(word) => self.free(word),

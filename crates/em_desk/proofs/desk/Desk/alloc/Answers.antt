@@ -30,13 +30,13 @@ is_allocated c =
     let may = in_fields d c.args.self.now s.pool c.self.view_is s.is (λ k past. IsTrue (may_ask k past 0 (Ask.Alloc c.args.pool c.args.kind c.args.words))) c.requires.may_ask in
     let log : c.as_slice.result.now ≡ d.log.items = c.as_slice.ensures.value in
     let events : c.pool_events-events.result ≡ s.pool.events =
-        c.pool_events-events.ensures ∙ ap (λ (k : Declarations). events_of_pool k 0) s.is in
+    c.pool_events-events.ensures ∙ ap (λ (k : Declarations). events_of_pool k 0) s.is in
     let gives : List Entry → ℕ → Event = λ xs n.
-        event_with (next_handle (reverse xs) (unwrap_or (find (is_free_index (reverse xs)) (numbers_from 0 n)) 0)) c.args.kind c.args.words in
+    event_with (next_handle (reverse xs) (unwrap_or (find (is_free_index (reverse xs)) (numbers_from 0 n)) 0)) c.args.kind c.args.words in
     c.allocated-event.ensures
     ∙ (ap (λ (xs : List Entry). gives xs c.pool_events-events.result) log
-      ∙ (ap (gives d.log.items) events
-        ∙ sym (allocated-is s.pool past c.args.pool c.args.kind c.args.words (pool-first s.pool past c.args.pool c.args.kind c.args.words may) s.keeps.spent)))
+    ∙ (ap (gives d.log.items) events
+    ∙ sym (allocated-is s.pool past c.args.pool c.args.kind c.args.words (pool-first s.pool past c.args.pool c.args.kind c.args.words may) s.keeps.spent)))
 
 new_log : (c : goal.After-told) → reverse c.push_reserved.new.self.items ≡ entry_by 0 (What.Alloc c.args.pool c.allocated-event.result) ∷ reverse c.self.inside.log.items
 new_log c =
@@ -78,7 +78,7 @@ returns c =
     let a : Ask = Ask.Alloc c.args.pool c.args.kind c.args.words in
     let accepted = in_fields d c.args.self.now s.pool c.self.view_is s.is (λ k past. refusal k past 0 a ≡ None) c.requires.accepted in
     let gives : What.Alloc c.args.pool c.allocated-event.result ≡ lead (simple s.pool) (reverse d.log.items) 0 a =
-        ap (λ (e : Event). What.Alloc c.args.pool e) (is_allocated c) ∙ own-lead (simple s.pool) (reverse d.log.items) a accepted in
+    ap (λ (e : Event). What.Alloc c.args.pool e) (is_allocated c) ∙ own-lead (simple s.pool) (reverse d.log.items) a accepted in
     let new = new_log c in
     answered d c.args.self.now _ s.pool a (What.Alloc c.args.pool c.allocated-event.result) c.told.result c.self.view_is s.is gives
     new

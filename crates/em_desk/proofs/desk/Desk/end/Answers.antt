@@ -20,8 +20,8 @@ invariant_of-self c =
     let kept = end-keeps s.pool d.limits past d.held.items d.arrived.items d.started d.in_context c.args.cells s.keeps may in
     let lost : c.len-lost.result ≡ length d.held.items = omega (arith, c.len-lost.ensures) in
     let new : reverse c.push_reserved.new.self.items ≡ entry_by 0 (What.End (length d.held.items) c.args.cells) ∷ past =
-        appended d.log.items c.push_reserved.new.self.items c.entry.result c.push_reserved.ensures.items
-        ∙ (ap (λ e. e ∷ past) c.entry.ensures ∙ ap (λ n. entry_by 0 (What.End n c.args.cells) ∷ past) lost) in
+    appended d.log.items c.push_reserved.new.self.items c.entry.result c.push_reserved.ensures.items
+    ∙ (ap (λ e. e ∷ past) c.entry.ensures ∙ ap (λ n. entry_by 0 (What.End n c.args.cells) ∷ past) lost) in
     let none = c.clear.ensures.items in
     let less = kept.less in
     record {

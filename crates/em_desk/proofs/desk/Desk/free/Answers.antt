@@ -23,7 +23,7 @@ invariant_of-self c =
     let accepted = in_fields d c.args.self.now s.pool c.self.view_is s.is (λ k past. refusal k past 0 (Ask.Free word) ≡ None) c.requires.accepted in
     let kept = free-keeps s.pool d.limits past d.held.items d.arrived.items d.started d.in_context word s.keeps may enough accepted in
     let new : reverse c.push_reserved.new.self.items ≡ entry_by 0 (What.Free (record { 0 = word })) ∷ past =
-        appended d.log.items c.push_reserved.new.self.items c.entry.result c.push_reserved.ensures.items ∙ ap (λ e. e ∷ past) c.entry.ensures in
+    appended d.log.items c.push_reserved.new.self.items c.entry.result c.push_reserved.ensures.items ∙ ap (λ e. e ∷ past) c.entry.ensures in
     let left_over = c.spend.ensures.items in
     let fewer = without-fewer word d.held.items in
     let less = kept.less in

@@ -22,7 +22,7 @@ invariant_of-self c =
     let enough = in_fields d c.args.self.now s.pool c.self.view_is s.is (λ k past. 1 ≤ left k past 0) c.requires.allowance in
     let kept = say-keeps s.pool d.limits past d.held.items d.arrived.items d.started d.in_context c.args.value s.keeps may enough in
     let new : reverse c.push_reserved.new.self.items ≡ entry_by 0 (What.Say c.args.value) ∷ past =
-        appended d.log.items c.push_reserved.new.self.items c.entry.result c.push_reserved.ensures.items ∙ ap (λ e. e ∷ past) c.entry.ensures in
+    appended d.log.items c.push_reserved.new.self.items c.entry.result c.push_reserved.ensures.items ∙ ap (λ e. e ∷ past) c.entry.ensures in
     let less = kept.less in
     record {
       pool = s.pool;

@@ -28,13 +28,13 @@ invariant_of-self c =
     let accepted = in_fields d c.args.self.now s.pool c.self.view_is s.is (λ k past. refusal k past 0 (Ask.Send word q None) ≡ None) c.requires.accepted in
     let log : c.as_slice.result.now ≡ d.log.items = c.as_slice.ensures.value in
     let found : c.event_of.result ≡ option_map the_event (minting past word) =
-        c.event_of.ensures ∙ ap (λ (xs : List Entry). option_map the_event (minting (reverse xs) word)) log in
+    c.event_of.ensures ∙ ap (λ (xs : List Entry). option_map the_event (minting (reverse xs) word)) log in
     let sent = c.unwrap_or_default-sent.result in
     let is : IfSome (option_map the_event (minting past word)) (λ e. sent ≡ e) =
-        subst (λ (o : Option Event). IfSome o (λ e. sent ≡ e)) found (unwraps _ _ _ c.unwrap_or_default-sent.ensures) in
+    subst (λ (o : Option Event). IfSome o (λ e. sent ≡ e)) found (unwraps _ _ _ c.unwrap_or_default-sent.ensures) in
     let kept = send-keeps s.pool d.limits past d.held.items d.arrived.items d.started d.in_context word q sent s.keeps may enough accepted is in
     let new : reverse c.push_reserved-2.new.self.items ≡ entry_by 0 (send_of word q) ∷ past =
-        appended d.log.items c.push_reserved-2.new.self.items c.entry.result c.push_reserved-2.ensures.items ∙ ap (λ e. e ∷ past) c.entry.ensures in
+    appended d.log.items c.push_reserved-2.new.self.items c.entry.result c.push_reserved-2.ensures.items ∙ ap (λ e. e ∷ past) c.entry.ensures in
     let left_over = c.spend.ensures.items in
     let more = c.push_reserved.ensures.items in
     let fewer = without-fewer word d.held.items in
