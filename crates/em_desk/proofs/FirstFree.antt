@@ -1,5 +1,5 @@
 -- The first number that passes a test.
-use Rattle.std.proofs.Common.{◌≡◌, ℕ, zero, suc, ◌+◌, ◌<◌, Bool, true, false, List, [], ◌∷◌, zero-add, Option, Some, None, find, refl, ap, sym, ◌∙◌, subst, arith}
+use Rattle.std.proofs.Common.{◌≡◌, ℕ, zero, suc, ◌+◌, ◌<◌, Bool, true, false, List, [], ◌∷◌, zero-add, Some, None, find, refl, ap, sym, ◌∙◌, subst, arith}
 use Rattle.em_log.specs.Declarations.{numbers_from}
 
 -- tests that agree find the same

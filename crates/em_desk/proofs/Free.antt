@@ -7,7 +7,7 @@ use Rattle.em_log.specs.declared.entry.What.{What}
 use Rattle.em_log.specs.declared.entry.Event.{Event}
 use Rattle.em_log.specs.History.{Past, minted_in, index_of}
 use Rattle.em_log.specs.Handles.{Minting, Spending, minting, spending, minting_by, last_handle, last_handle_by, next_handle}
-use Rattle.em_log.specs.Places.{Place, Taken, Waiting, Delayed, place, place_by, place_of, place_after, is_free, first_free, has_entered, entered_place, taker}
+use Rattle.em_log.specs.Places.{Taken, Waiting, Delayed, place, place_by, place_of, place_after, is_free, first_free, has_entered, entered_place, taker}
 use Rattle.em_log.specs.declared.ids.PoolId.{PoolId}
 use Rattle.em_log.specs.Declarations.{numbers_from}
 use Rattle.em_log.specs.Leads.{allocated, event_with}

@@ -1,5 +1,5 @@
 -- What a take leaves of what the desk keeps.
-use Rattle.std.proofs.Common.{◌≡◌, ℕ, suc, ◌+◌, ◌*◌, ◌<◌, ◌≤◌, ◌==◌, nat_lt, Bool, true, false, not, List, [], ◌∷◌, length, map, take, drop, get_or, Option, Some, None, IsTrue, refl, ap, sym, ◌∙◌, subst, arith}
+use Rattle.std.proofs.Common.{◌≡◌, ℕ, ◌+◌, ◌<◌, nat_lt, Bool, true, not, List, [], ◌∷◌, length, map, take, drop, get_or, Option, Some, None, IsTrue, refl, ap, ◌∙◌, subst, arith}
 use Rattle.std.proofs.lemmas.Bool.{lt-ltb}
 use Rattle.em_log.specs.declared.ask.Context.{Context}
 use Rattle.em_log.specs.declared.declarations.PoolShape.{PoolShape}
@@ -10,7 +10,7 @@ use Rattle.em_log.specs.declared.ids.Limits.{Limits}
 use Rattle.em_log.specs.History.{Past, entry_by, entries_by, onto}
 use Rattle.em_log.specs.Contexts.{context, boot_ended}
 use Rattle.em_log.specs.Arrivals.{Item}
-use Rattle.em_log.specs.Places.{waiting, taken, promised}
+use Rattle.em_log.specs.Places.{waiting, taken}
 use Rattle.em_log.specs.Atomic.{is_empty}
 use Rattle.em_log.specs.Eligible.{ready, is_choice}
 use Rattle.em_log.specs.Leads.{minted_again}
@@ -19,7 +19,7 @@ use Rattle.em_log.specs.Lawful.{Lawful, Takes}
 use Rattle.em_log.specs.Answers.{block, context_told, taken_as}
 use Rattle.em_log.proofs.Blocks.{block-lawful}
 use Rattle.em_desk.specs.Simple.{simple}
-use Rattle.em_desk.specs.Stands.{Keeps, Stays, Receives, spare, sent_item}
+use Rattle.em_desk.specs.Stands.{Keeps, Receives, sent_item}
 use Rattle.em_desk.proofs.Ready.{ready-is, promised-is, first-waits, waiting-is}
 
 abbrev pub took : Entry

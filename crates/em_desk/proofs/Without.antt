@@ -1,5 +1,5 @@
 -- The handles that are left without one.
-use Rattle.std.proofs.Common.{◌≡◌, ℕ, suc, ◌≤◌, ◌==◌, Bool, true, false, not, List, [], ◌∷◌, length, refl, ap, ◌∙◌, arith, if◌then◌else◌}
+use Rattle.std.proofs.Common.{◌≡◌, ℕ, suc, ◌≤◌, ◌==◌, Bool, true, false, not, List, [], ◌∷◌, length, refl, ap, arith, if◌then◌else◌}
 use Rattle.std.specs.List.{filter}
 use Rattle.em_log.specs.History.{without}
 

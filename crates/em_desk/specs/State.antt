@@ -1,5 +1,5 @@
 -- What a desk means, and what an ask does to it.
-use Rattle.std.specs.Prelude.{ℕ, ◌≡◌, Bool, Option, Some, None, is_some}
+use Rattle.std.specs.Prelude.{ℕ, ◌≡◌, Bool, None, is_some}
 use Rattle.em_log.specs.declared.declarations.Declarations.{Declarations}
 use Rattle.em_log.specs.declared.ids.Limits.{Limits}
 use Rattle.em_log.specs.declared.ask.Ask.{Ask}

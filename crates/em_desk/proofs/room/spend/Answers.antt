@@ -1,4 +1,4 @@
-use Rattle.std.proofs.Common.{rules, ◌≡◌, ◌∙◌}
+use Rattle.std.proofs.Common.{rules, ◌∙◌}
 use Rattle.std.proofs.lemmas.Fn.{filter_same}
 use Rattle.em_desk.proofs.Without.{is_other, filter-without}
 use Rattle.em_desk.proofs.room.spend.Goals as goal

@@ -1,4 +1,4 @@
-use Rattle.std.proofs.Common.{◌≡◌, ◌≤◌, reverse, take}
+use Rattle.std.proofs.Common.{◌≡◌, reverse, take}
 use Rattle.std.specs.Option.{option_map}
 use Rattle.em_log.specs.Handles.{minting}
 use Rattle.em_desk.proofs.Found.{the_event}

@@ -1,4 +1,4 @@
-use Rattle.std.proofs.Common.{◌≡◌, ℕ, ◌<◌, reverse, true, false, sym, ◌∙◌, arith}
+use Rattle.std.proofs.Common.{◌≡◌, ◌<◌, reverse, true, sym, arith}
 use Rattle.em_desk.specs.Search.{is_free_index}
 use Rattle.em_desk.proofs.FirstFree.{first-found, first-none}
 use Rattle.em_desk.proofs.search.first_free.Goals as goal

@@ -1,4 +1,4 @@
-use Rattle.std.proofs.Common.{◌≡◌, ◌≤◌, reverse, take}
+use Rattle.std.proofs.Common.{◌≡◌, reverse, take}
 use Rattle.em_desk.specs.Search.{has_freed}
 use Rattle.em_desk.proofs.search.is_freed.Given as goal
 

@@ -1,4 +1,4 @@
-use Rattle.std.proofs.Common.{◌≡◌, ◌≤◌, reverse, take}
+use Rattle.std.proofs.Common.{◌≡◌, reverse, take}
 use Rattle.em_log.specs.Handles.{last_handle}
 use Rattle.em_desk.proofs.search.last_handle.Given as goal
 

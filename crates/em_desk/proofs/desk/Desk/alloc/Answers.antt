@@ -1,8 +1,8 @@
-use Rattle.std.proofs.Common.{◌≡◌, ◌+◌, ◌≤◌, [], ◌∷◌, ◌++◌, length, length-append, ℕ, List, find, unwrap_or, reverse, None, IsTrue, ap, sym, ◌∙◌, subst, arith}
+use Rattle.std.proofs.Common.{◌≡◌, ◌≤◌, [], ◌∷◌, ◌++◌, ℕ, List, find, unwrap_or, reverse, None, IsTrue, ap, sym, ◌∙◌, arith}
 use Rattle.em_log.specs.declared.ask.Ask.{Ask}
 use Rattle.em_log.specs.declared.entry.Entry.{Entry}
 use Rattle.em_log.specs.declared.entry.What.{What}
-use Rattle.em_log.specs.History.{Past, entry_by}
+use Rattle.em_log.specs.History.{entry_by}
 use Rattle.em_log.specs.declared.ask.Reply.{Reply}
 use Rattle.em_log.specs.declared.entry.Event.{Event}
 use Rattle.em_log.specs.declared.declarations.Declarations.{Declarations}

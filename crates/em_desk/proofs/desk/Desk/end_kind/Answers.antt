@@ -1,4 +1,4 @@
-use Rattle.std.proofs.Common.{◌≡◌, ◌≢◌, ◌+◌, ◌<◌, ◌≤◌, ◌==◌, ℕ, Option, length, reverse, true, false, None, Some, ap, sym, ◌∙◌, subst, arith}
+use Rattle.std.proofs.Common.{◌≡◌, ◌≢◌, ◌==◌, ℕ, Option, length, reverse, false, None, Some, sym, ◌∙◌, subst, arith}
 use Rattle.std.proofs.lemmas.List.{length-reverse}
 use Rattle.std.specs.Vec.{vec_len}
 use Rattle.em_log.specs.declared.declarations.Declarations.{Declarations}
@@ -35,7 +35,7 @@ returns-then-self-2 c =
     let more : d.started ≢ vec_len d.arrived = λ e. c.if-from-len.false (c.from.ensures ∙ (e ∙ sym c.len.ensures)) in
     in_value d s c.args.self.now (Some EndKind.Limit) c.self.view_is
     (end-at-limit s.pool d.limits (reverse d.log.items) d.held.items d.arrived.items d.started d.in_context s.keeps
-      (wants_now d s c.if-self.false nonempty more) c.if-self-2.true)
+    (wants_now d s c.if-self.false nonempty more) c.if-self-2.true)
 
 pub returns : goal.returns
 returns c =
@@ -45,4 +45,4 @@ returns c =
     let more : d.started ≢ vec_len d.arrived = λ e. c.if-from-len.false (c.from.ensures ∙ (e ∙ sym c.len.ensures)) in
     in_value d s c.args.self.now None c.self.view_is
     (not-ended s.pool d.limits (reverse d.log.items) d.held.items d.arrived.items d.started d.in_context s.keeps
-      (wants_now d s c.if-self.false nonempty more) c.if-self-2.false)
+    (wants_now d s c.if-self.false nonempty more) c.if-self-2.false)

@@ -1,15 +1,14 @@
-use Rattle.std.proofs.Common.{◌≡◌, ◌+◌, ◌≤◌, [], ◌∷◌, ◌++◌, length, length-append, reverse, None, IsTrue, ap, sym, ◌∙◌, subst, arith}
+use Rattle.std.proofs.Common.{◌≡◌, ◌≤◌, ◌∷◌, reverse, None, IsTrue, ap, ◌∙◌, arith}
 use Rattle.em_log.specs.declared.ask.Ask.{Ask}
-use Rattle.em_log.specs.declared.entry.Entry.{Entry}
 use Rattle.em_log.specs.declared.entry.What.{What}
-use Rattle.em_log.specs.History.{Past, entry_by}
+use Rattle.em_log.specs.History.{entry_by}
 use Rattle.em_log.specs.Leads.{refusal}
 use Rattle.em_log.specs.Lawful.{may_ask}
 use Rattle.em_log.specs.Allowance.{left}
 use Rattle.em_desk.proofs.Newest.{appended}
 use Rattle.em_desk.proofs.Without.{without-fewer}
 use Rattle.em_desk.proofs.Fields.{in_fields}
-use Rattle.em_desk.proofs.Keeping.{free-keeps, Kept}
+use Rattle.em_desk.proofs.Keeping.{free-keeps}
 use Rattle.em_desk.proofs.desk.Desk.free.Goals as goal
 
 pub invariant_of-self : goal.invariant_of-self

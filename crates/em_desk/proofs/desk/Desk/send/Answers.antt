@@ -1,8 +1,7 @@
-use Rattle.std.proofs.Common.{◌≡◌, ◌+◌, ◌≤◌, [], ◌∷◌, ◌++◌, length, length-append, reverse, Option, List, None, IsTrue, ap, sym, ◌∙◌, subst, arith}
+use Rattle.std.proofs.Common.{◌≡◌, ◌≤◌, ◌∷◌, reverse, Option, List, None, IsTrue, ap, ◌∙◌, subst, arith}
 use Rattle.em_log.specs.declared.ask.Ask.{Ask}
 use Rattle.em_log.specs.declared.entry.Entry.{Entry}
-use Rattle.em_log.specs.declared.entry.What.{What}
-use Rattle.em_log.specs.History.{Past, entry_by}
+use Rattle.em_log.specs.History.{entry_by}
 use Rattle.std.specs.Option.{option_map, IfSome}
 use Rattle.em_log.specs.declared.entry.Event.{Event}
 use Rattle.em_log.specs.Handles.{minting}
@@ -13,7 +12,7 @@ use Rattle.em_desk.proofs.Newest.{appended}
 use Rattle.em_desk.proofs.Found.{the_event, unwraps}
 use Rattle.em_desk.proofs.Without.{without-fewer}
 use Rattle.em_desk.proofs.Fields.{in_fields}
-use Rattle.em_desk.proofs.Keeping.{send-keeps, send_of, Kept}
+use Rattle.em_desk.proofs.Keeping.{send-keeps, send_of}
 use Rattle.em_desk.proofs.desk.Desk.send.Goals as goal
 
 pub invariant_of-self : goal.invariant_of-self

@@ -1,18 +1,15 @@
-use Rattle.std.proofs.Common.{◌≡◌, ◌+◌, ◌*◌, ◌<◌, ◌≤◌, ◌==◌, ℕ, [], ◌∷◌, ◌++◌, List, length, reverse, get_or, Bool, true, false, None, Some, IsTrue, refl, ap, sym, ◌∙◌, subst, arith}
+use Rattle.std.proofs.Common.{◌≡◌, ◌+◌, ◌<◌, ◌≤◌, ◌==◌, ℕ, [], ◌∷◌, ◌++◌, List, length, reverse, get_or, false, None, Some, ap, sym, ◌∙◌, subst, arith}
 use Rattle.std.proofs.lemmas.List.{length-reverse}
 use Rattle.em_log.specs.declared.ask.Answer.{Answer}
-use Rattle.em_log.specs.declared.ask.Context.{Context}
 use Rattle.em_log.specs.declared.ask.Reply.{Reply}
 use Rattle.em_log.specs.declared.declarations.Declarations.{Declarations}
 use Rattle.em_log.specs.declared.entry.Entry.{Entry}
 use Rattle.em_log.specs.declared.entry.Event.{Event}
-use Rattle.em_log.specs.History.{Past, entry_by}
+use Rattle.em_log.specs.History.{Past}
 use Rattle.em_log.specs.Contexts.{context}
-use Rattle.em_log.specs.Operations.{step}
 use Rattle.em_log.specs.Answers.{Takes, Receives, block, context_told}
 use Rattle.em_desk.specs.Simple.{simple}
 use Rattle.em_desk.specs.State.{DeskState}
-use Rattle.em_desk.specs.Stands.{spare}
 use Rattle.std.specs.Vec.{vec_len, vec_capacity}
 use Rattle.em_desk.proofs.Newest.{appended}
 use Rattle.em_desk.proofs.Fields.{in_fields, core-first, no-step}
