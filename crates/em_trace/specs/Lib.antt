@@ -1,0 +1,5 @@
+pub mod Line
+pub mod Form
+pub mod Forms
+pub mod Text
+pub mod Reading
