@@ -1,5 +1,5 @@
 -- What a reading that gives a value says of its steps.
-use Rattle.std.proofs.Common.{◌≡◌, ℕ, Bool, true, false, cond, List, Option, Some, None, refl, ap}
+use Rattle.std.proofs.Common.{◌≡◌, ℕ, Bool, true, false, cond, List, Option, Some, None, refl, ap, inl, inr, ◌⊎◌}
 use Rattle.em_trace.specs.Line.{Rest}
 use Rattle.em_trace.specs.Form.{◌>>=◌, given}
 
@@ -28,3 +28,11 @@ given-some to (Some x) y s' e =
     let p = some-is (to x.0, x.1) (y, s') e in
     let rest : x.1 ≡ s' = ap (λ q. q.1) p in
     (x.0, ap (λ r. Some (x.0, r)) rest, ap (λ q. q.0) p)
+
+pub chosen-some : {A : Type 0} (b : Bool) (x y : A) (o : Option A) → cond b (Some x) o ≡ Some y → ((b ≡ true) × (x ≡ y)) ⊎ (o ≡ Some y)
+chosen-some true x y o e = inl (refl, cc)
+chosen-some false x y o e = inr e
+
+pub tested : {A : Type 0} (b : Bool) (o p : Option A) (y : A) → cond b o p ≡ Some y → ((b ≡ true) × (o ≡ Some y)) ⊎ (p ≡ Some y)
+tested true o p y e = inl (refl, e)
+tested false o p y e = inr e

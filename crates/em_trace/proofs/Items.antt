@@ -46,8 +46,8 @@ unfolding items
 items-short f takes zero s lt = absurd (omega arith)
 items-short f takes (suc n) s lt =
     bind-none (f.read s) (λ x. items f n x.1 >>= λ xs. Some (x.0 ∷ xs.0, xs.1)) (λ x e.
-      let fewer : length x.1.tokens < n = omega (arith, takes s x.0 x.1 e) in
-      rw (items-short f takes n x.1 fewer) refl)
+    let fewer : length x.1.tokens < n = omega (arith, takes s x.0 x.1 e) in
+    rw (items-short f takes n x.1 fewer) refl)
 
 token-shorter : (well : Bool) (tokens : List (List ℕ)) (t : List ℕ) (s' : Rest) → first_token well tokens ≡ Some (t, s') → length s'.tokens < length tokens
 token-shorter well [] t s' e = absurd cc

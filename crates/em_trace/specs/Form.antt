@@ -118,7 +118,7 @@ infixr 5 ◌▷◌
 abbrev pub ◌▷◌ : {A B : Type 0} → Form A → Form B → Form (A × B)
 f ▷ g = record {
   write = λ p. f.write p.0 ++ g.write p.1;
-  read = λ rest. f.read rest >>= λ x. g.read x.1 >>= λ y. Some ((x.0, y.0), y.1)
+  read = λ rest. f.read rest >>= λ x. g.read x.1 >>= λ y. Some ((x.0, y.0), y.1);
 }
 
 -- the same tokens, for another type
@@ -136,7 +136,7 @@ ended = record { write = λ _. []; read = λ rest. if is_over rest then Some (tt
 abbrev pub after : {A : Type 0} → List ℕ → Form A → Form A
 after word f = record {
   write = λ x. word ∷ f.write x;
-  read = λ rest. if is_at word rest then f.read (skip rest) else None
+  read = λ rest. if is_at word rest then f.read (skip rest) else None;
 }
 
 abbrev pub either_tokens : {A B : Type 0} → List ℕ → Form A → Form B → A ⊎ B → List (List ℕ)
@@ -147,7 +147,7 @@ either_tokens word f g (inr y) = g.write y
 abbrev pub either : {A B : Type 0} → List ℕ → Form A → Form B → Form (A ⊎ B)
 either word f g = record {
   write = either_tokens word f g;
-  read = λ rest. if is_at word rest then given (λ x. inl x) (f.read (skip rest)) else given (λ y. inr y) (g.read rest)
+  read = λ rest. if is_at word rest then given (λ x. inl x) (f.read (skip rest)) else given (λ y. inr y) (g.read rest);
 }
 
 abbrev pub optional_tokens : {A : Type 0} → List ℕ → Form A → Option A → List (List ℕ)
@@ -158,7 +158,7 @@ optional_tokens word f (Some x) = word ∷ f.write x
 abbrev pub optional : {A : Type 0} → List ℕ → Form A → Form (Option A)
 optional word f = record {
   write = optional_tokens word f;
-  read = λ rest. if is_at word rest then given (λ x. Some x) (f.read (skip rest)) else Some (None, rest)
+  read = λ rest. if is_at word rest then given (λ x. Some x) (f.read (skip rest)) else Some (None, rest);
 }
 
 -- n of them
@@ -179,7 +179,7 @@ read_count max rest = do
 abbrev pub counted : {A : Type 0} → ℕ → Form A → Form (List A)
 counted max f = record {
   write = λ xs. decimal (length xs) ∷ flat_map f.write xs;
-  read = λ rest. read_count max rest >>= λ n. items f n.0 n.1 >>= λ xs. Some (if nat_le n.0 max then xs.0 else [], xs.1)
+  read = λ rest. read_count max rest >>= λ n. items f n.0 n.1 >>= λ xs. Some (if nat_le n.0 max then xs.0 else [], xs.1);
 }
 
 abbrev pub lookup : {A : Type 0} → List ℕ → List (List ℕ × A) → Option A
@@ -190,12 +190,12 @@ lookup word (entry ∷ entries) = if bytes_eq word entry.0 then Some entry.1 els
 abbrev pub one_of : {A : Type 0} → List (List ℕ × A) → (A → List ℕ) → Form A
 one_of table word = record {
   write = λ x. word x ∷ [];
-  read = λ rest. token_at rest >>= λ t. lookup t.0 table >>= λ x. Some (x, t.1)
+  read = λ rest. token_at rest >>= λ t. lookup t.0 table >>= λ x. Some (x, t.1);
 }
 
 -- what has a value of the other type; else the default, told as a number out of its range is
 abbrev pub checked : {A B : Type 0} → (A → Option B) → (B → A) → B → Form A → Form B
 checked to back default f = record {
   write = λ y. f.write (back y);
-  read = λ rest. f.read rest >>= λ x. Some (unwrap_or (to x.0) default, judged (is_some (to x.0)) x.1)
+  read = λ rest. f.read rest >>= λ x. Some (unwrap_or (to x.0) default, judged (is_some (to x.0)) x.1);
 }

@@ -3,3 +3,5 @@ pub mod Form
 pub mod Forms
 pub mod Text
 pub mod Reading
+pub mod Traces
+pub mod Fitting

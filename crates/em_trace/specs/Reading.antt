@@ -50,6 +50,11 @@ abbrev pub with_first : Entry → Found → Found
 with_first entry (Ok x) = Ok (entry ∷ x.0, x.1)
 with_first entry (Err refusal) = Err refusal
 
+-- entries before what is found
+abbrev pub behind : List Entry → Found → Found
+behind entries (Ok x) = Ok (entries ++ x.0, x.1)
+behind entries (Err refusal) = Err refusal
+
 -- by what a line is: an entry before what follows, or the last line
 abbrev pub followed : ℕ → Result Line ℕ → Found → Option Refusal → Found
 followed number (Err rule) more after = Err (number, rule)

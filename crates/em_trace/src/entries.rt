@@ -1,21 +1,15 @@
 //! The entries, each behind the word of its kind.
-ghost use Rattle.std.specs.Prelude.{◌≡◌, bytes_eq};
+ghost use Rattle.std.specs.Prelude.{◌≡◌};
 ghost use Rattle.em_trace.specs.Form.{Reads, lookup, given};
 ghost use Rattle.em_trace.specs.Forms.{what_behind, what_form, entry_form, call_form, call_words, kind_form, kind_words, fault_form, fault_of_numbers, kind_of_number, state_of_number};
 
 use crate::kind::EntryKind;
-use crate::line::Line;
+use crate::line::{Line, is};
 use crate::reading::{
     body, cells, content, core, eo, event, event_group, handle, job, notes, op, outcome, pool,
     queue, received, scope, some_cells, stamped, ticket, u8_number, u32_number, u64_number,
 };
 use em_log::{Call, CoreId, Entry, EoState, EventGroupId, Fault, Kind, OpId, QueueId, What};
-
-fn is(token: &[u8], word: &str) -> bool
-    ensures { result ≡ bytes_eq token.now word.now }
-{
-    token == word.as_bytes()
-}
 
 fn call_of(token: &[u8]) -> Option<Call>
     ensures { result ≡ lookup token.now call_words }
@@ -251,7 +245,11 @@ fn enter(line: &mut Line) -> Option<What>
     ensures { Reads result line.new (what_behind EntryKind.Enter line.old) }
 {
     let body = body(line)?;
-    if line.is_over() { Some(What::Enter(body)) } else { None }
+    if line.is_over() {
+        Some(What::Enter(body))
+    } else {
+        None
+    }
 }
 
 #[tactic(auto, unfolding(crate::specs::Forms::what_behind))]
@@ -261,7 +259,11 @@ fn take(line: &mut Line) -> Option<What>
     let queue = queue(line)?;
     let n = u8_number(line)?;
     let ticket = ticket(line)?;
-    if line.is_over() { Some(What::Take { queue, n, ticket }) } else { None }
+    if line.is_over() {
+        Some(What::Take { queue, n, ticket })
+    } else {
+        None
+    }
 }
 
 #[tactic(auto, unfolding(crate::specs::Forms::what_behind))]
@@ -271,7 +273,15 @@ fn start(line: &mut Line) -> Option<What>
     let queue = queue(line)?;
     let event = event(line)?;
     let stamp = stamped(line)?;
-    if line.is_over() { Some(What::Start { queue, event, stamp }) } else { None }
+    if line.is_over() {
+        Some(What::Start {
+            queue,
+            event,
+            stamp,
+        })
+    } else {
+        None
+    }
 }
 
 #[tactic(auto, unfolding(crate::specs::Forms::what_behind))]
@@ -280,7 +290,11 @@ fn untake(line: &mut Line) -> Option<What>
 {
     let queue = queue(line)?;
     let n = u8_number(line)?;
-    if line.is_over() { Some(What::Untake { queue, n }) } else { None }
+    if line.is_over() {
+        Some(What::Untake { queue, n })
+    } else {
+        None
+    }
 }
 
 #[tactic(auto, unfolding(crate::specs::Forms::what_behind))]
@@ -292,7 +306,11 @@ fn end(line: &mut Line) -> Option<What>
     }
     let lost = u32_number(line)?;
     let cells = some_cells(line)?;
-    if line.is_over() { Some(What::End { lost, cells }) } else { None }
+    if line.is_over() {
+        Some(What::End { lost, cells })
+    } else {
+        None
+    }
 }
 
 #[tactic(auto, unfolding(crate::specs::Forms::what_behind))]
@@ -304,21 +322,33 @@ fn end_atomic(line: &mut Line) -> Option<What>
     }
     let rest = u8_number(line)?;
     let cells = cells(line)?;
-    if line.is_over() { Some(What::EndAtomic { rest, cells }) } else { None }
+    if line.is_over() {
+        Some(What::EndAtomic { rest, cells })
+    } else {
+        None
+    }
 }
 
 #[tactic(auto, unfolding(crate::specs::Forms::what_behind))]
 fn end_ordered(line: &mut Line) -> Option<What>
     ensures { Reads result line.new (what_behind EntryKind.EndOrdered line.old) }
 {
-    if line.is_over() { Some(What::EndOrdered) } else { None }
+    if line.is_over() {
+        Some(What::EndOrdered)
+    } else {
+        None
+    }
 }
 
 #[tactic(auto, unfolding(crate::specs::Forms::what_behind))]
 fn end_group(line: &mut Line) -> Option<What>
     ensures { Reads result line.new (what_behind EntryKind.EndGroup line.old) }
 {
-    if line.is_over() { Some(What::EndGroup) } else { None }
+    if line.is_over() {
+        Some(What::EndGroup)
+    } else {
+        None
+    }
 }
 
 #[tactic(auto, unfolding(crate::specs::Forms::what_behind))]
@@ -327,7 +357,11 @@ fn alloc(line: &mut Line) -> Option<What>
 {
     let pool = pool(line)?;
     let event = event(line)?;
-    if line.is_over() { Some(What::Alloc { pool, event }) } else { None }
+    if line.is_over() {
+        Some(What::Alloc { pool, event })
+    } else {
+        None
+    }
 }
 
 #[tactic(auto, unfolding(crate::specs::Forms::what_behind))]
@@ -335,7 +369,11 @@ fn free(line: &mut Line) -> Option<What>
     ensures { Reads result line.new (what_behind EntryKind.Free line.old) }
 {
     let handle = handle(line)?;
-    if line.is_over() { Some(What::Free(handle)) } else { None }
+    if line.is_over() {
+        Some(What::Free(handle))
+    } else {
+        None
+    }
 }
 
 #[tactic(auto, unfolding(crate::specs::Forms::what_behind))]
@@ -346,7 +384,16 @@ fn send(line: &mut Line) -> Option<What>
     let queue = queue(line)?;
     let ticket = ticket(line)?;
     let stamp = stamped(line)?;
-    if line.is_over() { Some(What::Send { handle, queue, ticket, stamp }) } else { None }
+    if line.is_over() {
+        Some(What::Send {
+            handle,
+            queue,
+            ticket,
+            stamp,
+        })
+    } else {
+        None
+    }
 }
 
 #[tactic(auto, unfolding(crate::specs::Forms::what_behind))]
@@ -354,7 +401,11 @@ fn keep(line: &mut Line) -> Option<What>
     ensures { Reads result line.new (what_behind EntryKind.Keep line.old) }
 {
     let handle = handle(line)?;
-    if line.is_over() { Some(What::Keep(handle)) } else { None }
+    if line.is_over() {
+        Some(What::Keep(handle))
+    } else {
+        None
+    }
 }
 
 #[tactic(auto, unfolding(crate::specs::Forms::what_behind))]
@@ -362,7 +413,11 @@ fn claim(line: &mut Line) -> Option<What>
     ensures { Reads result line.new (what_behind EntryKind.Claim line.old) }
 {
     let event = received(line)?;
-    if line.is_over() { Some(What::Claim(event)) } else { None }
+    if line.is_over() {
+        Some(What::Claim(event))
+    } else {
+        None
+    }
 }
 
 #[tactic(auto, unfolding(crate::specs::Forms::what_behind))]
@@ -371,7 +426,11 @@ fn dequeue(line: &mut Line) -> Option<What>
 {
     let queue = queue(line)?;
     let event = received(line)?;
-    if line.is_over() { Some(What::Dequeue { queue, event }) } else { None }
+    if line.is_over() {
+        Some(What::Dequeue { queue, event })
+    } else {
+        None
+    }
 }
 
 #[tactic(auto, unfolding(crate::specs::Forms::what_behind))]
@@ -380,7 +439,11 @@ fn out(line: &mut Line) -> Option<What>
 {
     let queue = queue(line)?;
     let (kind, words) = content(line)?;
-    if line.is_over() { Some(What::Out { queue, kind, words }) } else { None }
+    if line.is_over() {
+        Some(What::Out { queue, kind, words })
+    } else {
+        None
+    }
 }
 
 #[tactic(auto, unfolding(crate::specs::Forms::what_behind))]
@@ -388,7 +451,11 @@ fn say(line: &mut Line) -> Option<What>
     ensures { Reads result line.new (what_behind EntryKind.Say line.old) }
 {
     let value = u64_number(line)?;
-    if line.is_over() { Some(What::Say(value)) } else { None }
+    if line.is_over() {
+        Some(What::Say(value))
+    } else {
+        None
+    }
 }
 
 #[tactic(auto, unfolding(crate::specs::Forms::what_behind))]
@@ -396,7 +463,11 @@ fn enable(line: &mut Line) -> Option<What>
     ensures { Reads result line.new (what_behind EntryKind.Enable line.old) }
 {
     let queue = queue(line)?;
-    if line.is_over() { Some(What::Enable(queue)) } else { None }
+    if line.is_over() {
+        Some(What::Enable(queue))
+    } else {
+        None
+    }
 }
 
 #[tactic(auto, unfolding(crate::specs::Forms::what_behind))]
@@ -404,7 +475,11 @@ fn disable(line: &mut Line) -> Option<What>
     ensures { Reads result line.new (what_behind EntryKind.Disable line.old) }
 {
     let queue = queue(line)?;
-    if line.is_over() { Some(What::Disable(queue)) } else { None }
+    if line.is_over() {
+        Some(What::Disable(queue))
+    } else {
+        None
+    }
 }
 
 #[tactic(auto, unfolding(crate::specs::Forms::what_behind))]
@@ -414,7 +489,11 @@ fn begin(line: &mut Line) -> Option<What>
     let op = op(line)?;
     let job = job(line)?;
     let notes = notes(line)?;
-    if line.is_over() { Some(What::Begin { op, job, notes }) } else { None }
+    if line.is_over() {
+        Some(What::Begin { op, job, notes })
+    } else {
+        None
+    }
 }
 
 #[tactic(auto, unfolding(crate::specs::Forms::what_behind))]
@@ -423,7 +502,11 @@ fn global_done(line: &mut Line) -> Option<What>
 {
     let op = op(line)?;
     let ok = outcome(line)?;
-    if line.is_over() { Some(What::GlobalDone { op, ok }) } else { None }
+    if line.is_over() {
+        Some(What::GlobalDone { op, ok })
+    } else {
+        None
+    }
 }
 
 #[tactic(auto, unfolding(crate::specs::Forms::what_behind))]
@@ -431,7 +514,11 @@ fn ack(line: &mut Line) -> Option<What>
     ensures { Reads result line.new (what_behind EntryKind.Ack line.old) }
 {
     let op = op(line)?;
-    if line.is_over() { Some(What::Ack(op)) } else { None }
+    if line.is_over() {
+        Some(What::Ack(op))
+    } else {
+        None
+    }
 }
 
 #[tactic(auto, unfolding(crate::specs::Forms::what_behind))]
@@ -440,7 +527,11 @@ fn done(line: &mut Line) -> Option<What>
 {
     let op = op(line)?;
     let ok = outcome(line)?;
-    if line.is_over() { Some(What::Done { op, ok }) } else { None }
+    if line.is_over() {
+        Some(What::Done { op, ok })
+    } else {
+        None
+    }
 }
 
 #[tactic(auto, unfolding(crate::specs::Forms::what_behind))]
@@ -451,7 +542,16 @@ fn apply(line: &mut Line) -> Option<What>
     let app = u32_number(line)?;
     let count = u64_number(line)?;
     let notes = notes(line)?;
-    if line.is_over() { Some(What::Apply { group, app, count, notes }) } else { None }
+    if line.is_over() {
+        Some(What::Apply {
+            group,
+            app,
+            count,
+            notes,
+        })
+    } else {
+        None
+    }
 }
 
 #[tactic(auto, unfolding(crate::specs::Forms::what_behind))]
@@ -460,7 +560,11 @@ fn increment(line: &mut Line) -> Option<What>
 {
     let group = event_group(line)?;
     let n = u64_number(line)?;
-    if line.is_over() { Some(What::Increment { group, n }) } else { None }
+    if line.is_over() {
+        Some(What::Increment { group, n })
+    } else {
+        None
+    }
 }
 
 #[tactic(auto, unfolding(crate::specs::Forms::what_behind))]
@@ -468,7 +572,11 @@ fn abort(line: &mut Line) -> Option<What>
     ensures { Reads result line.new (what_behind EntryKind.Abort line.old) }
 {
     let group = event_group(line)?;
-    if line.is_over() { Some(What::Abort(group)) } else { None }
+    if line.is_over() {
+        Some(What::Abort(group))
+    } else {
+        None
+    }
 }
 
 #[tactic(auto, unfolding(crate::specs::Forms::what_behind))]
@@ -477,7 +585,11 @@ fn notify(line: &mut Line) -> Option<What>
 {
     let group = event_group(line)?;
     let app = u32_number(line)?;
-    if line.is_over() { Some(What::Notify { group, app }) } else { None }
+    if line.is_over() {
+        Some(What::Notify { group, app })
+    } else {
+        None
+    }
 }
 
 #[tactic(auto, unfolding(crate::specs::Forms::what_behind))]
@@ -487,7 +599,11 @@ fn refusal(line: &mut Line) -> Option<What>
     let call = call(line)?;
     let fault = fault(line)?;
     let scope = scope(line)?;
-    if line.is_over() { Some(What::Fault { call, fault, scope }) } else { None }
+    if line.is_over() {
+        Some(What::Fault { call, fault, scope })
+    } else {
+        None
+    }
 }
 
 /// What stands behind the word of a kind, to the end of the line.

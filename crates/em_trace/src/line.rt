@@ -1,5 +1,5 @@
 //! A line that is read token by token.
-ghost use Rattle.std.specs.Prelude.{◌≡◌, option_map, ◌≤◌, ◌*◌, ◌-◌, ◌∷◌, ◌+◌, ◌^◌, ◌==◌, IfSome, MatchOption, true, length, [], List, ℕ, position, if◌then◌else◌};
+ghost use Rattle.std.specs.Prelude.{◌≡◌, bytes_eq, option_map, ◌≤◌, ◌*◌, ◌-◌, ◌∷◌, ◌+◌, ◌^◌, ◌==◌, IfSome, MatchOption, true, length, [], List, ℕ, position, if◌then◌else◌};
 ghost use Rattle.std.specs.Char.{is_ascii_digit};
 ghost use Rattle.std.specs.List.{list_all};
 ghost use Rattle.em_trace.specs.Form.{Reads, CountIs, read_count, token_at, skip, is_at, is_over, judged, read_number, read_marked, number_of, is_digits, is_well, value};
@@ -8,6 +8,12 @@ ghost use Rattle.em_trace.specs.Text.{text};
 ghost use Rattle.em_trace.specs.Reading.{trace_of};
 
 use std::marker::Model;
+
+pub(crate) fn is(bytes: &[u8], word: &str) -> bool
+    ensures { result ≡ bytes_eq bytes.now word.now }
+{
+    bytes == word.as_bytes()
+}
 
 /// Where the first separator is.
 fn first(separator: u8, bytes: &[u8]) -> Option<usize>
@@ -28,6 +34,7 @@ pub(crate) fn split(separator: u8, bytes: &[u8]) -> (&[u8], Option<&[u8]>)
 }
 
 /// What is left of a line.
+#[derive(Drop)]
 pub(crate) struct Line<'a> {
     bytes: Option<&'a [u8]>,
     well: bool,

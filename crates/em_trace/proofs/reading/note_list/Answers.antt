@@ -10,7 +10,7 @@ returns-in_default c = items-none note_form c.loop.notes c.args.count c.loop.cou
 pub loop-preserved : goal.loop-preserved
 loop-preserved c = record {
   so_far = rw c.push.ensures (items-more note_form c.loop.notes c.args.count c.loop.counter c.loop.line c.in-Some.note c.note.new.line _ c.loop-test.true c.in-Some.ensures c.loop.invariant.so_far);
-  as_many = rw c.push.ensures (omega (arith, length-append c.loop.notes (c.in-Some.note ∷ []), c.loop.invariant.as_many))
+  as_many = rw c.push.ensures (omega (arith, length-append c.loop.notes (c.in-Some.note ∷ []), c.loop.invariant.as_many));
 }
 
 pub returns : goal.returns

@@ -10,7 +10,7 @@ returns-in_default c = items-none u64_form c.loop.words c.args.count c.loop.coun
 pub loop-preserved : goal.loop-preserved
 loop-preserved c = record {
   so_far = rw c.push.ensures (items-more u64_form c.loop.words c.args.count c.loop.counter c.loop.line c.in-Some.word c.u64_number.new.line _ c.loop-test.true c.in-Some.ensures c.loop.invariant.so_far);
-  as_many = rw c.push.ensures (omega (arith, length-append c.loop.words (c.in-Some.word ∷ []), c.loop.invariant.as_many))
+  as_many = rw c.push.ensures (omega (arith, length-append c.loop.words (c.in-Some.word ∷ []), c.loop.invariant.as_many));
 }
 
 pub returns : goal.returns
