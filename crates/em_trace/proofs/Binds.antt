@@ -1,5 +1,5 @@
 -- What a reading that gives a value says of its steps.
-use Rattle.std.proofs.Common.{◌≡◌, ℕ, Bool, true, false, cond, List, Option, Some, None, refl, ap, inl, inr, ◌⊎◌}
+use Rattle.std.proofs.Common.{◌≡◌, Bool, true, false, cond, Option, Some, None, refl, ap, inl, inr, ◌⊎◌}
 use Rattle.em_trace.specs.Line.{Rest}
 use Rattle.em_trace.specs.Form.{◌>>=◌, given}
 

@@ -1,6 +1,6 @@
 -- Digits and the numbers that they spell.
-use Rattle.std.proofs.Common.{◌≡◌, ℕ, zero, suc, ◌+◌, ◌-◌, ◌*◌, ◌^◌, ◌<◌, ◌≤◌, Bool, true, false, List, [], ◌∷◌, length, get_or, take, drop, refl, sym, ap, ◌∙◌, arith, add-one, drop-cons}
-use Rattle.em_trace.specs.Form.{value_from, value}
+use Rattle.std.proofs.Common.{◌≡◌, ℕ, ◌+◌, ◌-◌, ◌*◌, ◌^◌, ◌<◌, ◌≤◌, List, [], ◌∷◌, length, get_or, drop, refl, arith, add-one, drop-cons}
+use Rattle.em_trace.specs.Form.{value_from}
 
 pub value_from-ge : (n : ℕ) (ds : List ℕ) → n ≤ value_from n ds
 value_from-ge n [] = omega arith

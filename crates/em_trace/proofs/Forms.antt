@@ -1,13 +1,11 @@
 -- What is written in a form is read again, and what is read was written so.
-use Rattle.std.proofs.Common.{◌≡◌, ℕ, zero, suc, ◌+◌, ◌-◌, ◌*◌, ◌^◌, ◌<◌, ◌≤◌, Bool, true, false, not, ◌&&◌, cond, eqb, leb, ltb, List, [], ◌∷◌, ◌++◌, length, get_or, take, drop, Option, Some, None, is_some, unwrap_or, refl, sym, ap, subst, ◌∙◌, append_assoc, append-nil, arith, inl, inr, ◌⊎◌}
-use Rattle.std.specs.List.{AllByRecursion, flat_map, list_all}
-use Rattle.std.specs.Char.{is_ascii_digit}
-use Rattle.std.specs.Prelude.{decimal, bytes_eq, slice_index}
+use Rattle.std.proofs.Common.{◌≡◌, ℕ, ◌<◌, Bool, true, false, ◌&&◌, cond, List, [], ◌∷◌, ◌++◌, drop, Option, Some, None, refl, sym, ap, subst, ◌∙◌, append_assoc, inl, inr, ◌⊎◌}
+use Rattle.std.specs.List.{AllByRecursion}
+use Rattle.std.specs.Prelude.{bytes_eq}
 use Rattle.std.proofs.lemmas.Slice.Eq.{bytes_eq-Decides}
-use Rattle.std.proofs.lemmas.Bool.{ltb-true, ltb-false}
 use Rattle.em_trace.specs.Line.{Rest}
-use Rattle.em_trace.specs.Form.{◌>>=◌, Form, given, judged, token_at, first_token, is_at, is_first, skip, is_over, has_none, value, is_digits, is_well, number_of, read_number, number, number_behind, read_marked, marked, ◌▷◌, mapped, nothing, ended, after, either_tokens, either, optional_tokens, optional, items, times, read_count, counted, lookup, one_of, checked}
-use Rattle.em_trace.proofs.Binds.{some-is, bind-none, bind-some, cond-some, test-some, given-some}
+use Rattle.em_trace.specs.Form.{◌>>=◌, Form, given, is_at, is_first, skip, is_over, has_none, ◌▷◌, mapped, nothing, ended, after, either, optional}
+use Rattle.em_trace.proofs.Binds.{some-is, bind-some, cond-some, test-some, given-some}
 
 -- no byte of a token is a space or a newline
 abbrev pub IsPlain : List ℕ → Type 0

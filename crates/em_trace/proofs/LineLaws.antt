@@ -1,5 +1,5 @@
 -- The line of an entry is judged to be it, and nothing else is.
-use Rattle.std.proofs.Common.{◌≡◌, ℕ, zero, suc, ◌+◌, ◌*◌, ◌^◌, ◌<◌, ◌≤◌, Bool, true, false, cond, eqb, ltb, List, [], ◌∷◌, ◌++◌, length, Option, Some, None, Result, Ok, Err, refl, sym, ap, subst, ◌∙◌, append_assoc, append-nil, arith, inl, inr, ◌⊎◌, eqb-true, eq-eqb, ne_eqb}
+use Rattle.std.proofs.Common.{◌≡◌, ℕ, ◌^◌, ◌<◌, Bool, true, false, cond, eqb, List, [], ◌∷◌, ◌++◌, Option, Some, None, Result, Ok, Err, refl, sym, ap, subst, ◌∙◌, append-nil, arith, inl, inr, ◌⊎◌, eqb-true, eq-eqb, ne_eqb}
 use Rattle.std.specs.List.{AllByRecursion}
 use Rattle.std.specs.Prelude.{decimal, bytes_eq, codes}
 use Rattle.std.proofs.lemmas.Slice.Eq.{bytes_eq-Decides}
@@ -10,12 +10,12 @@ use Rattle.em_trace.specs.declared.judging.Line.{Line}
 use Rattle.em_trace.specs.declared.judging.Line.TheVariants as lines
 use Rattle.em_trace.specs.Line.{Rest, pieces, onto_first, spaced, joined}
 use Rattle.em_trace.specs.Form.{has_none}
-use Rattle.em_trace.specs.Forms.{u64_form, entry_form}
+use Rattle.em_trace.specs.Forms.{entry_form}
 use Rattle.em_trace.specs.Fitting.{IsU64, EntryFits}
 use Rattle.em_trace.specs.Text.{line_tokens, end_word}
 use Rattle.em_trace.specs.Reading.{placed_form, placed, judge}
 use Rattle.em_trace.proofs.Pieces.{has_none_pieces}
-use Rattle.em_trace.proofs.Forms.{IsPlain, well_rest, Took, IsForm, Nothing}
+use Rattle.em_trace.proofs.Forms.{IsPlain, well_rest, IsForm, Nothing}
 use Rattle.em_trace.proofs.Numbers.{decimal-differs-with}
 use Rattle.em_trace.proofs.Parts.{then-law, u64-law}
 use Rattle.em_trace.proofs.WhatLaws.{entry-law}

@@ -1,14 +1,13 @@
 -- Reading by lines, where the next line is known.
-use Rattle.std.proofs.Common.{◌≡◌, ℕ, suc, ◌+◌, Bool, true, false, cond, eqb, List, [], ◌∷◌, ◌++◌, length, Option, Some, None, Result, Ok, Err, refl, sym, ap, ◌∙◌, append_assoc, append-nil}
+use Rattle.std.proofs.Common.{◌≡◌, ℕ, ◌+◌, true, false, cond, eqb, List, [], ◌∷◌, ◌++◌, length, Some, Ok, Err, refl, sym, ap, ◌∙◌, append_assoc}
 use Rattle.em_log.specs.declared.ids.EndKind.{EndKind}
 use Rattle.em_log.specs.declared.entry.Entry.{Entry}
-use Rattle.em_trace.specs.declared.judging.Line.{Line}
 use Rattle.em_trace.specs.declared.judging.Line.TheVariants as lines
 use Rattle.em_trace.specs.Form.{has_none}
 use Rattle.std.specs.Prelude.{bytes_eq}
 use Rattle.em_trace.specs.Text.{head_word}
 use Rattle.em_trace.specs.Line.{pieces}
-use Rattle.em_trace.specs.Reading.{trace_of, found_behind, judge, Found, Refusal, rule_after_end, fault_after, found_from, followed, with_first, end_unless, behind}
+use Rattle.em_trace.specs.Reading.{trace_of, found_behind, judge, Found, rule_after_end, fault_after, found_from, followed, with_first, end_unless, behind}
 use Rattle.em_trace.proofs.Pieces.{has_none_pieces}
 
 after-more : (number place : ℕ) (line : List ℕ) (ps : List (List ℕ)) → has_none ps ≡ false → fault_after number place (line ∷ ps) ≡ Some (number, rule_after_end (judge place line))

@@ -1,14 +1,14 @@
 -- Numbers as tokens of digits, plain and behind a letter.
-use Rattle.std.proofs.Common.{◌≡◌, ℕ, zero, suc, ◌+◌, ◌-◌, ◌*◌, ◌^◌, ◌<◌, ◌≤◌, Bool, true, false, not, ◌&&◌, cond, eqb, leb, ltb, List, [], ◌∷◌, ◌++◌, length, get_or, Option, Some, None, refl, sym, ap, subst, ◌∙◌, arith, rules, eqb-true, eq-eqb, ltb-true, lt-ltb, le-ltb, le-leb, leb-true, ltb-false, ne_eqb}
-use Rattle.std.specs.List.{AllByRecursion, list_all}
+use Rattle.std.proofs.Common.{◌≡◌, ℕ, zero, suc, ◌^◌, ◌<◌, ◌≤◌, Bool, true, false, not, ◌&&◌, cond, eqb, leb, ltb, List, [], ◌∷◌, ◌++◌, length, get_or, Some, refl, sym, ap, ◌∙◌, arith, rules, eqb-true, eq-eqb, ltb-true, lt-ltb, le-leb, leb-true, ltb-false, ne_eqb}
+use Rattle.std.specs.List.{list_all}
 use Rattle.std.specs.Char.{is_ascii_digit}
 use Rattle.std.specs.Prelude.{decimal, bytes_eq}
 use Rattle.std.proofs.lemmas.Str.Parse.{IsNumeralModel, IsDigitsTest, numerals_by_fold}
-use Rattle.std.proofs.lemmas.Fmt.{digits_decimal, digits_value-decimal, decimal_nonempty, decimal_digit, first_decimal, decimal-digits_value, length-decimal-le}
+use Rattle.std.proofs.lemmas.Fmt.{digits_decimal, digits_value-decimal, decimal_nonempty, decimal_digit, first_decimal, decimal-digits_value}
 use Rattle.em_trace.specs.Line.{Rest}
-use Rattle.em_trace.specs.Form.{◌>>=◌, Form, judged, token_at, first_token, value_from, value, is_digits, is_well, number_of, read_number, number, number_behind, read_marked, marked}
+use Rattle.em_trace.specs.Form.{judged, token_at, first_token, value_from, value, is_digits, is_well, number_of, read_number, number, number_behind, read_marked, marked}
 use Rattle.em_trace.proofs.Binds.{some-is, bind-some, cond-some, test-some}
-use Rattle.em_trace.proofs.Forms.{IsPlain, well_rest, Took, IsForm, Any, and-true}
+use Rattle.em_trace.proofs.Forms.{IsPlain, well_rest, IsForm, Any, and-true}
 
 abbrev AreDigits : List ℕ → Type 0
 AreDigits ds = list_all is_ascii_digit ds ≡ true

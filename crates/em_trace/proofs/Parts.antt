@@ -1,18 +1,10 @@
 -- The laws of the parts of entries.
-use Rattle.std.proofs.Common.{◌≡◌, ℕ, zero, suc, ◌+◌, ◌-◌, ◌^◌, ◌<◌, ◌≤◌, Bool, true, false, ◌&&◌, cond, eqb, leb, ltb, List, [], ◌∷◌, ◌++◌, length, Option, Some, None, refl, sym, ap, subst, ◌∙◌, arith, inl, inr, ◌⊎◌, le-leb, leb-true, eqb-true, ltb-true, lt-ltb, ne_eqb}
-use Rattle.std.specs.List.{AllByRecursion, list_all}
-use Rattle.std.specs.Prelude.{decimal, codes, bytes_eq}
-use Rattle.em_log.specs.declared.ids.CoreId.{CoreId}
-use Rattle.em_log.specs.declared.ids.QueueId.{QueueId}
+use Rattle.std.proofs.Common.{◌≡◌, ℕ, ◌≤◌, Bool, true, false, ◌&&◌, cond, eqb, leb, ltb, List, [], ◌∷◌, ◌++◌, length, Option, Some, None, refl, sym, ap, subst, ◌∙◌, arith, inl, inr, ◌⊎◌, le-leb, leb-true, eqb-true, ltb-true}
+use Rattle.std.specs.List.{AllByRecursion}
+use Rattle.std.specs.Prelude.{codes, bytes_eq}
 use Rattle.em_log.specs.declared.ids.GroupId.{GroupId}
 use Rattle.em_log.specs.declared.ids.EoId.{EoId}
-use Rattle.em_log.specs.declared.ids.EventGroupId.{EventGroupId}
-use Rattle.em_log.specs.declared.ids.PoolId.{PoolId}
 use Rattle.em_log.specs.declared.ids.OpId.{OpId}
-use Rattle.em_log.specs.declared.ids.Handle.{Handle}
-use Rattle.em_log.specs.declared.ids.Cells.{Cells}
-use Rattle.em_log.specs.declared.ids.Note.{Note}
-use Rattle.em_log.specs.declared.ids.Stamp.{Stamp}
 use Rattle.em_log.specs.declared.ids.EoState.{EoState}
 use Rattle.em_log.specs.declared.ids.EoState.TheVariants as states
 use Rattle.em_log.specs.declared.ids.Kind.{Kind}
@@ -21,19 +13,18 @@ use Rattle.em_log.specs.declared.fault.Fault.{Fault}
 use Rattle.em_log.specs.declared.fault.Fault.TheVariants as faults
 use Rattle.em_log.specs.declared.fault.Call.{Call}
 use Rattle.em_log.specs.declared.fault.Call.TheVariants as calls
-use Rattle.em_log.specs.declared.entry.Event.{Event}
 use Rattle.em_log.specs.declared.entry.Body.{Body}
 use Rattle.em_log.specs.declared.entry.Body.TheVariants as bodies
 use Rattle.em_log.specs.declared.entry.Begun.{Begun}
 use Rattle.em_log.specs.declared.entry.Begun.TheVariants as begun
-use Rattle.em_trace.specs.Form.{Form, number, marked, ◌▷◌, mapped, nothing, ended, after, either, optional, times, counted, lookup, one_of, checked, is_first}
-use Rattle.em_trace.specs.Forms.{u8_form, u32_form, u64_form, core_form, group_form, eo_form, egroup_form, pool_form, queue_form, op_form, handle_form, words_form, content_form, event_form, option_from, option_back, received_form, stamp_form, note_form, notes_form, eight_form, cells_form, bool_from, bool_back, outcome_form, body_from, body_back, body_form, job_from, job_back, job_form, scope_form, word_of_call, named_call, call_words, call_form, number_of_kind, kind_of_number, number_of_state, state_of_number, numbers_of_fault, at_most, only_zero, of_kind, of_state, faults_by_number, fault_in, fault_of_numbers, fault_form}
+use Rattle.em_trace.specs.Form.{Form, number, marked, ◌▷◌, nothing, after, either, times, counted, lookup, is_first}
+use Rattle.em_trace.specs.Forms.{u8_form, u32_form, u64_form, core_form, group_form, eo_form, egroup_form, pool_form, queue_form, op_form, handle_form, words_form, content_form, event_form, option_from, option_back, received_form, stamp_form, note_form, notes_form, eight_form, cells_form, bool_from, bool_back, outcome_form, body_from, body_back, body_form, job_from, job_back, job_form, scope_form, word_of_call, call_words, call_form, number_of_kind, kind_of_number, number_of_state, state_of_number, numbers_of_fault, at_most, only_zero, of_kind, of_state, faults_by_number, fault_in, fault_of_numbers, fault_form}
 use Rattle.em_trace.specs.Fitting.{IsU8, IsU16, IsU32, IsU64, AreWords, EventFits, StampFits, NoteFits, AreNotes, CellsFit, BodyFits, JobFits, FaultFits}
 use Rattle.em_trace.specs.Fitting.{OptionFits}
-use Rattle.em_trace.proofs.Forms.{IsPlain, IsForm, Any, Nothing, SumFits, then-form, mapped-form, nothing-form, ended-form, after-form, either-form, optional-form}
+use Rattle.em_trace.proofs.Forms.{IsPlain, IsForm, Any, SumFits, then-form, mapped-form, nothing-form, after-form, either-form}
 use Rattle.em_trace.proofs.Numbers.{number-form, marked-form, decimal-differs}
 use Rattle.em_trace.proofs.Binds.{some-is, cond-some, chosen-some, tested}
-use Rattle.em_trace.proofs.Several.{times-form, counted-form, IsTable, one_of-form, checked-form}
+use Rattle.em_trace.proofs.Several.{times-form, counted-form, one_of-form, checked-form}
 
 abbrev pub is_plain : List ℕ → Bool
 is_plain [] = true

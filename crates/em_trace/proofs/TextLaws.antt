@@ -1,7 +1,7 @@
 -- What is written is found again, and what is found was written.
-use Rattle.std.proofs.Common.{◌≡◌, ℕ, zero, suc, ◌+◌, ◌-◌, ◌*◌, ◌^◌, ◌<◌, ◌≤◌, Bool, true, false, cond, eqb, List, [], ◌∷◌, ◌++◌, length, Option, Some, None, Result, Ok, Err, refl, sym, ap, subst, ◌∙◌, append_assoc, append-nil, arith, inl, inr, ◌⊎◌, eqb-true, ne_eqb}
+use Rattle.std.proofs.Common.{◌≡◌, ℕ, ◌+◌, ◌^◌, ◌≤◌, Bool, true, false, cond, eqb, List, [], ◌∷◌, ◌++◌, length, Option, Some, None, Result, Ok, Err, refl, sym, ap, subst, ◌∙◌, append_assoc, arith, inl, inr, ◌⊎◌, ne_eqb}
 use Rattle.std.specs.List.{AllByRecursion}
-use Rattle.std.specs.Prelude.{bytes_eq, codes}
+use Rattle.std.specs.Prelude.{bytes_eq}
 use Rattle.std.proofs.lemmas.Slice.Eq.{bytes_eq-Decides}
 use Rattle.em_log.specs.declared.ids.EndKind.{EndKind}
 use Rattle.em_log.specs.declared.ids.EndKind.TheVariants.{Quiet, Limit}
@@ -9,12 +9,11 @@ use Rattle.em_log.specs.declared.entry.Entry.{Entry}
 use Rattle.em_trace.specs.declared.judging.Line.{Line}
 use Rattle.em_trace.specs.declared.judging.Line.TheVariants as lines
 use Rattle.em_trace.specs.Line.{pieces, joined}
-use Rattle.em_trace.specs.Form.{has_none}
 use Rattle.em_trace.specs.Fitting.{IsU64, EntryFits, AreEntries}
 use Rattle.em_trace.specs.Text.{line_tokens, line, lines_from, end_word, head_word, text}
-use Rattle.em_trace.specs.Reading.{judge, Found, Refusal, fault_after, found_from, followed, with_first, end_unless, rule_after_end, found_behind, trace_of}
+use Rattle.em_trace.specs.Reading.{judge, Found, Refusal, fault_after, found_from, followed, with_first, end_unless, found_behind, trace_of}
 use Rattle.em_trace.proofs.Lines.{found_from_more, trace_behind_head}
-use Rattle.em_trace.proofs.LineLaws.{Above, pieces-alone, pieces-then, behind_each, joined_by, joined-pieces, judge-entry, judge-end, LineIs, judge-took, above-line}
+use Rattle.em_trace.proofs.LineLaws.{Above, pieces-then, behind_each, joined_by, joined-pieces, judge-entry, judge-end, judge-took, above-line}
 
 found-is : (x y : List Entry × EndKind) → ◌≡◌ {A = Found} (Ok x) (Ok y) → x ≡ y
 found-is x y e = cc

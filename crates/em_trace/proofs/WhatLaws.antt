@@ -1,10 +1,8 @@
 -- The laws of the entries.
-use Rattle.std.proofs.Common.{◌≡◌, ℕ, ◌<◌, ◌≤◌, Bool, true, false, List, [], ◌∷◌, ◌++◌, Option, Some, None, refl, sym, ap, subst, ◌∙◌, arith}
+use Rattle.std.proofs.Common.{◌≡◌, ℕ, Bool, true, false, List, [], ◌∷◌, ◌++◌, Option, Some, None, refl, sym, ap, subst, ◌∙◌}
 use Rattle.std.specs.List.{AllByRecursion}
 use Rattle.std.specs.Prelude.{codes}
-use Rattle.em_log.specs.declared.ids.CoreId.{CoreId}
 use Rattle.em_log.specs.declared.ids.QueueId.{QueueId}
-use Rattle.em_log.specs.declared.ids.GroupId.{GroupId}
 use Rattle.em_log.specs.declared.ids.EoId.{EoId}
 use Rattle.em_log.specs.declared.ids.EventGroupId.{EventGroupId}
 use Rattle.em_log.specs.declared.ids.PoolId.{PoolId}
@@ -20,16 +18,15 @@ use Rattle.em_log.specs.declared.entry.Body.{Body}
 use Rattle.em_log.specs.declared.entry.Begun.{Begun}
 use Rattle.em_log.specs.declared.entry.What.{What}
 use Rattle.em_log.specs.declared.entry.What.TheVariants as what
-use Rattle.em_log.specs.declared.entry.Entry.{Entry}
 use Rattle.em_trace.specs.declared.kind.EntryKind.{EntryKind}
 use Rattle.em_trace.specs.declared.kind.EntryKind.TheVariants as kinds
 use Rattle.em_trace.specs.Line.{Rest}
-use Rattle.em_trace.specs.Form.{◌>>=◌, Form, given, ◌▷◌, ended, after, optional, lookup, one_of, is_first}
-use Rattle.em_trace.specs.Forms.{u8_form, u32_form, core_form, eight_form, stamp_form, ticket_form, stamped_form, some_cells_form, word_of_kind, named_kind, kind_words, kind_form, what_tokens, what_behind, read_what, what_form, entry_form, enter_form, take_form, start_form, untake_form, end_form, endatomic_form, alloc_form, handle_alone_form, send_form, claim_form, dequeue_form, out_form, say_form, queue_alone_form, begin_form, done_form, op_alone_form, apply_form, increment_form, egroup_alone_form, notify_form, refusal_form}
+use Rattle.em_trace.specs.Form.{Form, given, ◌▷◌, ended, after, lookup, is_first}
+use Rattle.em_trace.specs.Forms.{u8_form, u32_form, core_form, eight_form, stamp_form, ticket_form, stamped_form, some_cells_form, word_of_kind, kind_words, kind_form, what_tokens, what_behind, read_what, what_form, entry_form, enter_form, take_form, start_form, untake_form, end_form, endatomic_form, alloc_form, handle_alone_form, send_form, claim_form, dequeue_form, out_form, say_form, queue_alone_form, begin_form, done_form, op_alone_form, apply_form, increment_form, egroup_alone_form, notify_form, refusal_form}
 use Rattle.em_trace.specs.Fitting.{IsU8, IsU16, IsU32, IsU64, AreWords, EventFits, StampFits, AreNotes, CellsFit, BodyFits, JobFits, FaultFits, OptionFits, WhatFits, EntryFits}
-use Rattle.em_trace.proofs.Binds.{some-is, bind-some, given-some}
+use Rattle.em_trace.proofs.Binds.{bind-some, given-some}
 use Rattle.em_trace.proofs.Forms.{IsPlain, well_rest, Took, IsForm, Any, Nothing, mapped-form, ended-form, after-form, optional-form}
-use Rattle.em_trace.proofs.Several.{IsTable, one_of-form}
+use Rattle.em_trace.proofs.Several.{one_of-form}
 use Rattle.em_trace.proofs.Parts.{plain-word, then-law, u8-law, u32-law, u64-law, core-law, queue-law, pool-law, op-law, handle-law, egroup-law, stamp-law, event-law, received-law, content-law, notes-law, eight-law, cells-law, outcome-law, body-law, job-law, scope-law, call-law, fault-law}
 
 -- ---- the ends of lines

@@ -1,5 +1,5 @@
 -- The forms of the entries.
-use Rattle.std.specs.Prelude.{ℕ, ◌^◌, ◌-◌, Bool, true, false, List, [], ◌∷◌, ◌++◌, Option, Some, None, ◌==◌, nat_le, if◌then◌else◌, codes, ◌⊎◌}
+use Rattle.std.specs.Prelude.{ℕ, Bool, true, false, List, [], ◌∷◌, Option, Some, None, ◌==◌, nat_le, if◌then◌else◌, codes, ◌⊎◌}
 use Rattle.std.proofs.Common.{inl, inr}
 use Rattle.em_log.specs.declared.ids.CoreId.{CoreId}
 use Rattle.em_log.specs.declared.ids.QueueId.{QueueId}
@@ -31,7 +31,7 @@ use Rattle.em_log.specs.declared.entry.Entry.{Entry}
 use Rattle.em_trace.specs.declared.kind.EntryKind.{EntryKind}
 use Rattle.em_trace.specs.declared.kind.EntryKind.TheVariants as kinds
 use Rattle.em_trace.specs.Line.{Rest}
-use Rattle.em_trace.specs.Form.{◌>>=◌, Form, given, token_at, number, marked, ◌▷◌, mapped, nothing, ended, after, either, optional, times, counted, lookup, one_of, checked}
+use Rattle.em_trace.specs.Form.{◌>>=◌, Form, given, number, marked, ◌▷◌, mapped, nothing, ended, after, either, optional, times, counted, one_of, checked}
 
 -- ---- numbers and names
 

@@ -1,5 +1,5 @@
 -- Reading a trace: its history and end, or the first line that fails with the least rule that fails there.
-use Rattle.std.specs.Prelude.{◌≡◌, ℕ, ◌+◌, Bool, true, false, List, [], ◌∷◌, ◌++◌, length, Option, Some, None, Result, Ok, Err, ◌==◌, if◌then◌else◌, bytes_eq, codes}
+use Rattle.std.specs.Prelude.{ℕ, ◌+◌, true, List, [], ◌∷◌, ◌++◌, length, Option, Some, None, Result, Ok, Err, ◌==◌, if◌then◌else◌, bytes_eq, codes}
 use Rattle.em_log.specs.declared.ids.EndKind.{EndKind}
 use Rattle.em_log.specs.declared.ids.EndKind.TheVariants.{Quiet, Limit}
 use Rattle.em_log.specs.declared.entry.Entry.{Entry}

@@ -85,13 +85,13 @@ fn what(line: &mut Text, what: &What)
             handle: id,
             queue: to,
             ticket: drawn,
-            stamp,
+            stamp: under,
         } => {
             line.word("send");
             handle(line, *id);
             queue(line, *to);
             ticket(line, *drawn);
-            stamped(line, *stamp);
+            stamped(line, *under);
         }
         What::Keep(id) => {
             line.word("keep");

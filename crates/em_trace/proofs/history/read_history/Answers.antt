@@ -1,7 +1,5 @@
 use Rattle.std.proofs.Common.{◌≡◌, ℕ, Result, Ok, Err, ap, subst, ◌∙◌}
 use Rattle.std.specs.Prelude.{List, IfOk}
-use Rattle.em_log.specs.declared.entry.Entry.{Entry}
-use Rattle.em_log.specs.declared.ids.EndKind.{EndKind}
 use Rattle.em_trace.specs.declared.history.Trace.{Trace}
 use Rattle.em_trace.specs.declared.history.TraceEnd.{TraceEnd}
 use Rattle.em_trace.specs.Fitting.{AreEntries}

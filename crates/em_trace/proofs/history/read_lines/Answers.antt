@@ -2,8 +2,7 @@ use Rattle.std.specs.Prelude.{OnOk, is_err}
 use Rattle.std.proofs.Common.{Result, false, ◌≡◌, ◌+◌, ◌∷◌, [], cond, eqb, length, Ok, Err, refl, sym, ap, ◌∙◌, arith}
 use Rattle.em_trace.specs.declared.judging.Line.TheVariants as lines
 use Rattle.em_trace.specs.Line.{pieces}
-use Rattle.em_trace.specs.Reading.{judge, found_from, fault_after, behind, end_unless}
-use Rattle.em_trace.specs.Traces.{FailsAs, Gives}
+use Rattle.em_trace.specs.Reading.{judge, found_from}
 use Rattle.em_trace.proofs.Lines.{lines_begin, lines_end, lines_refused, lines_over, lines_entry}
 use Rattle.em_trace.proofs.history.read_lines.Goals as goal
 use Rattle.em_trace.proofs.history.read_lines.Goals.{then-is_empty, else-is_empty}

@@ -1,4 +1,4 @@
-use Rattle.std.proofs.Common.{◌≡◌, sym, ◌∙◌}
+use Rattle.std.proofs.Common.{sym, ◌∙◌}
 use Rattle.em_trace.proofs.Pieces.{pieces_found, pieces_alone}
 use Rattle.em_trace.proofs.line.split.Goals as goal
 

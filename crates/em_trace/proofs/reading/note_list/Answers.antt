@@ -1,5 +1,4 @@
-use Rattle.std.proofs.Common.{◌≡◌, ◌∷◌, ◌++◌, [], length, arith, length-append}
-use Rattle.em_trace.specs.Form.{items}
+use Rattle.std.proofs.Common.{◌∷◌, [], arith, length-append}
 use Rattle.em_trace.specs.Forms.{note_form}
 use Rattle.em_trace.proofs.Items.{items-more, items-none, items-done}
 use Rattle.em_trace.proofs.reading.note_list.Goals as goal

@@ -1,4 +1,4 @@
-use Rattle.std.proofs.Common.{◌≡◌, ◌-◌, ℕ, List}
+use Rattle.std.proofs.Common.{◌≡◌, ◌-◌, List}
 use Rattle.em_log.specs.declared.ids.Note.{Note}
 use Rattle.em_trace.specs.Form.{items}
 use Rattle.em_trace.specs.Forms.{note_form}

@@ -1,4 +1,4 @@
-use Rattle.std.proofs.Common.{◌≡◌, ◌∷◌, ◌++◌, [], append-nil}
+use Rattle.std.proofs.Common.{◌∷◌, ◌++◌, [], append-nil}
 use Rattle.std.specs.Prelude.{codes}
 use Rattle.em_trace.specs.Forms.{queue_form, event_form, stamped_form}
 use Rattle.em_trace.proofs.Spacing.{spaced_then}

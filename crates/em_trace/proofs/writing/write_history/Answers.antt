@@ -1,10 +1,9 @@
-use Rattle.std.proofs.Common.{◌≡◌, ℕ, ◌+◌, ◌∷◌, ◌++◌, [], length, get_or, take, List, Result, Ok, Err, refl, sym, ap, subst, ◌∙◌, rules, append-nil}
+use Rattle.std.proofs.Common.{◌≡◌, get_or, Result, Ok, Err, sym, ap, subst, ◌∙◌, rules}
 use Rattle.std.specs.Prelude.{OnOk, OnErr}
 use Rattle.std.specs.Io.KnownBytes.{append_known}
-use Rattle.em_log.specs.declared.entry.Entry.{Entry}
 use Rattle.em_io.specs.Sink.{AppendsPrefix}
-use Rattle.em_trace.specs.Text.{line, text, lines_from, end_word}
-use Rattle.em_trace.proofs.Appending.{head_line, text_before, text_before_more, text_first, text_part, text_whole, text_last_part, text_before_none, appends_then}
+use Rattle.em_trace.specs.Text.{line}
+use Rattle.em_trace.proofs.Appending.{text_before, text_before_more, text_first, text_part, text_whole, text_last_part, text_before_none, appends_then}
 use Rattle.em_trace.proofs.writing.write_history.Goals as goal
 
 on_ok : {A E : Type 0} (r : Result A E) (P Q : Type 0) → OnOk r P → (P → Q) → OnOk r Q
