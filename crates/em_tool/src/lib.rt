@@ -1,0 +1,10 @@
+//! The commands of the event machine.
+#![tactic(auto)]
+
+pub mod decimal;
+pub mod fields;
+pub mod first_form;
+pub mod names;
+pub mod parts;
+pub mod said;
+pub mod words;
