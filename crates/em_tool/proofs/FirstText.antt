@@ -58,7 +58,7 @@ text_of-lines f =
     let pool = pool-line f.pool (decimal f.events) (decimal f.words) _ ∙ ap (λ l. codes "pool " ++ (f.pool ++ 32 ∷ (decimal f.events ++ 32 ∷ (decimal f.words ++ 10 ∷ l)))) eo in
     ap (λ l. codes "cores 1" ++ 10 ∷ l) pool
 
-both : (s t : Bool) → (s && t) ≡ true → (s ≡ true) × (t ≡ true)
+pub both : (s t : Bool) → (s && t) ≡ true → (s ≡ true) × (t ≡ true)
 both true t e = (refl, e)
 both false t e = absurd (cc (e))
 

@@ -1,4 +1,5 @@
 pub mod Cutting
+pub mod Scripts
 pub mod Splitting
 pub mod NameTests
 pub mod Numbers

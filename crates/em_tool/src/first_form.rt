@@ -3,6 +3,7 @@ ghost use Rattle.std.specs.Prelude.{◌≡◌, ◌<◌, ◌≤◌, ◌^◌, ◌�
 ghost use Rattle.std.specs.Option.{option_map};
 ghost use Rattle.std.specs.Fmt.{decimal};
 ghost use Rattle.em_log.specs.Names.{are_different as all_differ, is_name as is_a_name};
+ghost use Rattle.em_tool.specs.Decimal.{AreNumbers};
 ghost use Rattle.em_tool.specs.FirstForm.{First, Fits};
 ghost use Rattle.em_tool.specs.Script.{first_of};
 ghost use Rattle.em_tool.specs.Spelling.{split_as, spelling_of};
@@ -16,7 +17,7 @@ use std::alloc::Global;
 
 /// The names and numbers of a script of the first form. The first number is the kind of its event, the others are
 /// its words.
-#[derive(Debug, Drop)]
+#[derive(Drop)]
 pub struct Script<'a> {
     pub pool: &'a str,
     pub events: u16,
@@ -53,4 +54,41 @@ fn number_within(text: &str, least: u64, most: u64) -> Option<u64>
         Some(n) if least <= n && n <= most => Some(n),
         _ => None,
     }
+}
+
+/// The script that the parts spell.
+pub fn script_of<'a>(alloc: Global, parts: &Parts<'a>) -> Result<Option<Script<'a>>, NoMemory>
+    ensures spelled { IfOk result (λ found. IfSome found (λ script. Fits (first_of script) × (split_as parts.now ≡ spelling_of (first_of script)) × AreNumbers script.numbers)) }
+    ensures read { (f : First) → Fits f → split_as parts.now ≡ spelling_of f → IfOk result (λ found. option_map first_of found ≡ Some f) }
+{
+    if !uses_declared(parts) {
+        return Ok(None);
+    }
+    if !declares_names(parts.pool, parts.eo, parts.queue) {
+        return Ok(None);
+    }
+    let Some(events) = number_within(parts.events, 1, 4096) else {
+        return Ok(None);
+    };
+    let Some(words) = number_within(parts.words, 0, 16) else {
+        return Ok(None);
+    };
+    let Some(said) = said_of(parts.said) else {
+        return Ok(None);
+    };
+    let Some(numbers) = numbers(alloc, parts.numbers, ' ')? else {
+        return Ok(None);
+    };
+    if numbers.as_slice().len() as u64 > words + 1 {
+        return Ok(None);
+    }
+    Ok(Some(Script {
+        pool: parts.pool,
+        events: events as u16,
+        words: words as u8,
+        eo: parts.eo,
+        queue: parts.queue,
+        numbers,
+        said,
+    }))
 }

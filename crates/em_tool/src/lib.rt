@@ -3,6 +3,7 @@
 
 pub mod decimal;
 pub mod fields;
+mod graph;
 pub mod first_form;
 pub mod names;
 pub mod parts;
