@@ -1,3 +1,4 @@
+pub mod Ascii
 pub mod Cutting
 pub mod Scripts
 pub mod Splitting

@@ -1,7 +1,7 @@
 -- A script that was read, as its names and numbers.
 use Rattle.std.specs.Prelude.{ℕ, List, [], ◌∷◌}
 use Rattle.em_tool.specs.FirstForm.{First}
-use Rattle.em_tool.specs.declared.first_form.Script.{Script}
+use Rattle.em_tool.specs.declared.script.Script.{Script}
 
 abbrev pub kind_of : List ℕ → ℕ
 kind_of [] = 0

@@ -5,8 +5,8 @@ ghost use Rattle.em_tool.specs.Decimal.{AreNumbers};
 ghost use Rattle.em_tool.specs.FirstForm.{boot_of, graph_of, receive_of, said_expression};
 ghost use Rattle.em_tool.specs.Script.{first_of};
 
-use crate::first_form::Script;
 use crate::said::Said;
+use crate::script::Script;
 use em_log::{
     Block, Config, Decl, EoDecl, EoId, Expr, Given, GroupId, Kind, List, Name, NoMemory, PoolDecl,
     PoolId, Priority, QueueDecl, QueueId, Stmt,

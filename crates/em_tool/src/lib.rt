@@ -1,11 +1,16 @@
-//! The commands of the event machine.
+//! The commands of the event machine: the words of a command, and the scripts that are read so far.
 #![tactic(auto)]
 
-pub mod decimal;
-pub mod fields;
+mod decimal;
+mod fields;
 mod graph;
+mod names;
+mod parts;
+
 pub mod first_form;
-pub mod names;
-pub mod parts;
 pub mod said;
+pub mod script;
 pub mod words;
+
+pub use first_form::parse_first_form;
+pub use words::{Solo, command};

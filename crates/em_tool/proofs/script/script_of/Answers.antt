@@ -2,7 +2,7 @@ use Rattle.std.proofs.Common.{◌≡◌, ◌∷◌, suc, ℕ, Some, None, arith,
 use Rattle.em_tool.specs.Parts.{Split}
 use Rattle.em_tool.specs.Script.{kind_of, values_of}
 use Rattle.em_tool.proofs.Scripts.{first-equals}
-use Rattle.em_tool.proofs.first_form.script_of.Goals as goal
+use Rattle.em_tool.proofs.script.script_of.Goals as goal
 
 pub returns-in_default-2-clause-read : goal.returns-in_default-2-clause-read
 returns-in_default-2-clause-read c f fits is =
