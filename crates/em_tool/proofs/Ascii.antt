@@ -1,5 +1,5 @@
 -- The text of a script of the first form is ASCII.
-use Rattle.std.proofs.Common.{◌≡◌, ◌<◌, ◌^◌, ℕ, zero, suc, List, [], ◌∷◌, ◌++◌, Bool, true, false, refl, sym, ap, ◌∙◌, arith, subst}
+use Rattle.std.proofs.Common.{◌≡◌, ◌<◌, ◌^◌, ℕ, zero, suc, List, [], ◌∷◌, ◌++◌, true, refl, sym, ◌∙◌, arith, subst}
 use Rattle.std.specs.Prelude.{codes, IsTrue, ◌&&◌, length, nat_le, nat_lt, not}
 use Rattle.std.specs.Fmt.{decimal}
 use Rattle.std.specs.List.{list_all}
@@ -90,13 +90,13 @@ IsAscii-split f fits =
     let space : 32 < 128 = omega arith in
     let line : 10 < 128 = omega arith in
     let body : IsAscii (body_text s) = IsAscii-three before_body 32 before_said 10 the_end 10 f.eo (said_text f.said) [] []
-        (IsAscii-test before_body refl) space (IsAscii-test before_said refl) line (IsAscii-test the_end refl) line eo said IsAscii-nil IsAscii-nil in
+    (IsAscii-test before_body refl) space (IsAscii-test before_said refl) line (IsAscii-test the_end refl) line eo said IsAscii-nil IsAscii-nil in
     let boot : IsAscii (boot_text s) = IsAscii-three before_alloc 32 [] 10 (codes "send v0 ") 10 f.pool (spelled 32 (f.kind ∷ f.values)) f.queue (body_text s)
-        (IsAscii-test before_alloc refl) space IsAscii-nil line (IsAscii-test (codes "send v0 ") refl) line pool numbers queue body in
+    (IsAscii-test before_alloc refl) space IsAscii-nil line (IsAscii-test (codes "send v0 ") refl) line pool numbers queue body in
     let queues : IsAscii (queue_text s) = IsAscii-three (codes "eo ") 32 before_queue 32 (codes "parallel ") 32 f.eo f.queue f.eo (boot_text s)
-        (IsAscii-test (codes "eo ") refl) space (IsAscii-test before_queue refl) space (IsAscii-test (codes "parallel ") refl) space eo queue eo boot in
+    (IsAscii-test (codes "eo ") refl) space (IsAscii-test before_queue refl) space (IsAscii-test (codes "parallel ") refl) space eo queue eo boot in
     IsAscii-three before_pool 32 [] 32 [] 10 f.pool (decimal f.events) (decimal f.words) (queue_text s)
-        (IsAscii-test before_pool refl) space IsAscii-nil space IsAscii-nil line pool events words queues
+    (IsAscii-test before_pool refl) space IsAscii-nil space IsAscii-nil line pool events words queues
 
 pub script-utf8 : (bytes : List ℕ) (f : First) → Fits f → bytes ≡ text_of (lines_of f) → IsUtf8 bytes
 script-utf8 bytes f fits is = subst IsUtf8 (sym (is ∙ text_of-lines f)) (IsUtf8-from_ascii (split_text (spelling_of f)) (IsAscii-split f fits))

@@ -1,5 +1,5 @@
 -- What is cut out of a text, and that it is found again.
-use Rattle.std.proofs.Common.{◌≡◌, ◌≢◌, ◌<◌, ◌+◌, ℕ, suc, List, [], ◌∷◌, ◌++◌, length, get_or, drop, Some, None, Bool, true, false, rules, arith, refl, sym, ap, ◌∙◌, eq-eqb, eqb-true, subst, MatchOption, Bor}
+use Rattle.std.proofs.Common.{◌≡◌, ◌≢◌, ◌<◌, ◌+◌, ℕ, suc, List, [], ◌∷◌, ◌++◌, length, get_or, drop, Some, None, Bool, true, false, arith, refl, sym, ap, ◌∙◌, eq-eqb, eqb-true, subst, MatchOption, Bor}
 use Rattle.std.specs.Prelude.{Option, ◌==◌, if◌then◌else◌}
 use Rattle.std.specs.Str.Pattern.{FindsTextPrefix}
 use Rattle.std.specs.Option.{option_map, option_map_or, option_and_then}

@@ -1,12 +1,12 @@
 -- The text of a script of the first form, and its parts.
-use Rattle.std.proofs.Common.{◌≡◌, ◌≢◌, ◌<◌, ◌^◌, ℕ, List, [], ◌∷◌, ◌++◌, Bool, true, false, refl, sym, ap, ◌∙◌, append_assoc, eq-eqb, map, arith}
-use Rattle.std.specs.Prelude.{codes, length, nat_le, not, IsTrue, ◌&&◌, ◌||◌, ◌==◌}
+use Rattle.std.proofs.Common.{◌≡◌, ◌≢◌, ◌<◌, ◌^◌, ℕ, List, [], ◌∷◌, ◌++◌, Bool, true, false, refl, ap, ◌∙◌, append_assoc, eq-eqb, map, arith}
+use Rattle.std.specs.Prelude.{codes, length, nat_le, not, IsTrue, ◌&&◌, ◌==◌}
 use Rattle.std.specs.Fmt.{decimal}
 use Rattle.std.specs.List.{join_with_byte, list_all}
 use Rattle.em_log.specs.Names.{is_name, is_name_byte, is_letter, is_reserved, begins_well}
 use Rattle.em_tool.specs.declared.said.Said.{Said}
 use Rattle.em_tool.specs.declared.said.Said.TheVariants.{Number, Word}
-use Rattle.em_tool.specs.Decimal.{AllFit, AreNumbers, spelled}
+use Rattle.em_tool.specs.Decimal.{AllFit, spelled}
 use Rattle.em_tool.specs.Fields.{Lacks}
 use Rattle.em_tool.specs.FirstForm.{First, Fits, lines_of, text_of}
 use Rattle.em_tool.specs.Said.{said_number, said_text, said_tokens}

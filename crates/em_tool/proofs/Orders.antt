@@ -1,5 +1,5 @@
 -- Cores and their numbers.
-use Rattle.std.proofs.Common.{◌≡◌, ◌<◌, ◌+◌, ◌++◌, take, ◌∙◌, sym, ◌^◌, ℕ, suc, length, get_or, arith, List, [], ◌∷◌, refl, ap}
+use Rattle.std.proofs.Common.{◌≡◌, ◌<◌, ◌+◌, ◌++◌, take, ◌∙◌, sym, ℕ, suc, length, get_or, arith, List, [], ◌∷◌, refl, ap}
 use Rattle.std.proofs.lemmas.List.{take_more}
 use Rattle.em_log.specs.declared.ids.CoreId.{CoreId}
 use Rattle.em_tool.specs.Decimal.{AllFit, AreNumbers}

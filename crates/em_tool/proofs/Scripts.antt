@@ -1,5 +1,5 @@
 -- A script of the first form that was read, and its names and numbers.
-use Rattle.std.proofs.Common.{◌≡◌, ◌≤◌, ℕ, List, [], ◌∷◌, Some, true, refl, sym, ap, ◌∙◌, arith, length}
+use Rattle.std.proofs.Common.{◌≡◌, ◌≤◌, ℕ, List, Some, sym, ap, ◌∙◌, arith, length}
 use Rattle.std.specs.Prelude.{IsTrue, nat_le, not, ◌&&◌}
 use Rattle.std.proofs.lemmas.Bool.Decides.{nat_tests}
 use Rattle.em_log.specs.Names.{is_name, is_reserved, begins_well}

@@ -1,6 +1,6 @@
 -- A script of the first form, its parts, and that each is found from the other.
-use Rattle.std.proofs.Common.{◌≡◌, ◌≢◌, ◌<◌, ◌^◌, ℕ, List, [], ◌∷◌, ◌++◌, Some, None, refl, sym, ap, ◌∙◌, append_assoc, subst, eqb-true, arith, map}
-use Rattle.std.specs.Prelude.{Option, codes, length, Bool, true, false, ◌==◌, if◌then◌else◌}
+use Rattle.std.proofs.Common.{◌≡◌, ℕ, List, [], ◌∷◌, ◌++◌, Some, None, refl, ap, ◌∙◌, subst, eqb-true, arith}
+use Rattle.std.specs.Prelude.{codes, length, Bool, true, false, ◌==◌, if◌then◌else◌}
 use Rattle.std.specs.Option.{option_and_then, option_map_or}
 use Rattle.em_tool.specs.Fields.{Lacks, field}
 use Rattle.em_tool.specs.Parts.{three, Split, ended, split_of, before_pool, before_queue, before_alloc, before_body, before_said, the_end}

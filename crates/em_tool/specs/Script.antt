@@ -14,6 +14,12 @@ values_of (kind ∷ values) = values
 abbrev pub first_of : Script → First
 first_of s =
     record {
-      pool = s.pool.now; events = s.events; words = s.words; eo = s.eo.now; queue = s.queue.now;
-      kind = kind_of s.numbers; values = values_of s.numbers; said = s.said;
+      pool = s.pool.now;
+      events = s.events;
+      words = s.words;
+      eo = s.eo.now;
+      queue = s.queue.now;
+      kind = kind_of s.numbers;
+      values = values_of s.numbers;
+      said = s.said;
     }

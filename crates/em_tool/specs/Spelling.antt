@@ -1,5 +1,5 @@
 -- The parts of a script as lists of bytes.
-use Rattle.std.specs.Prelude.{ℕ, List, ◌∷◌}
+use Rattle.std.specs.Prelude.{◌∷◌}
 use Rattle.em_tool.specs.declared.parts.Parts.{Parts}
 use Rattle.std.specs.Fmt.{decimal}
 use Rattle.em_tool.specs.Decimal.{spelled}
@@ -27,6 +27,15 @@ split_as p =
 abbrev pub spelling_of : First → Split
 spelling_of f =
     record {
-      pool = f.pool; events = decimal f.events; words = decimal f.words; eo = f.eo; queue = f.queue; queue_eo = f.eo;
-      alloc_pool = f.pool; numbers = spelled 32 (f.kind ∷ f.values); sent = f.queue; body_eo = f.eo; said = said_text f.said;
+      pool = f.pool;
+      events = decimal f.events;
+      words = decimal f.words;
+      eo = f.eo;
+      queue = f.queue;
+      queue_eo = f.eo;
+      alloc_pool = f.pool;
+      numbers = spelled 32 (f.kind ∷ f.values);
+      sent = f.queue;
+      body_eo = f.eo;
+      said = said_text f.said;
     }

@@ -3,11 +3,10 @@
 
 mod decimal;
 mod fields;
+pub mod first_form;
 mod graph;
 mod names;
 mod parts;
-
-pub mod first_form;
 pub mod said;
 pub mod script;
 pub mod words;

@@ -3,7 +3,7 @@ use Rattle.std.specs.Fmt.{decimal}
 use Rattle.std.specs.Result.{result_ok}
 use Rattle.std.proofs.lemmas.Fmt.{decimal_nonempty, parse-decimal}
 use Rattle.std.proofs.lemmas.Bool.Decides.{nat_tests}
-use Rattle.em_tool.proofs.Numerals.{parsed-spelled, decimal-zero, decimal-plain, parsed-result}
+use Rattle.em_tool.proofs.Numerals.{decimal-zero, decimal-plain, parsed-result}
 use Rattle.em_tool.proofs.decimal.number.Goals as goal
 use Rattle.em_tool.proofs.decimal.number.Goals.{then-first-eq48+else-bytes-gt1, else-first-eq48}
 

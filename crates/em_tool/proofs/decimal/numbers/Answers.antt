@@ -1,5 +1,4 @@
-use Rattle.std.proofs.Common.{◌≡◌, ◌<◌, ◌+◌, ◌++◌, ◌∷◌, [], List, ℕ, Some, None, rules, arith, refl, sym, ap, ◌∙◌, subst, length, length-append}
-use Rattle.std.specs.Fmt.{decimal}
+use Rattle.std.proofs.Common.{◌≡◌, ◌∷◌, Some, rules, arith, sym, ap, ◌∙◌, subst, length, length-append}
 use Rattle.em_tool.specs.Decimal.{AreNumbers, spelled}
 use Rattle.em_tool.proofs.Cutting.{cut-some}
 use Rattle.em_tool.proofs.Numbers.{Reads, Reads-start, Reads-step, Reads-stuck, Reads-stuck_last, Reads-last, Reads-unique}

@@ -1,4 +1,4 @@
-use Rattle.std.proofs.Common.{◌≡◌, Some, None, sym, ap, ◌∙◌}
+use Rattle.std.proofs.Common.{◌≡◌, Some, sym, ap, ◌∙◌}
 use Rattle.std.specs.Option.{option_map}
 use Rattle.em_tool.specs.FirstForm.{graph_of}
 use Rattle.em_tool.specs.Script.{first_of}
@@ -39,10 +39,12 @@ config_of-requires-clause-queue c =
 
 pub returns-clause-graph : goal.returns-clause-graph
 returns-clause-graph c =
-    let spelled = rw c.in-Some-2.is at c.in_ok-script.ensures.spelled in
-    (first_of c.in-Some-2.script, spelled.0,
-    sym c.in-Ok.ensures.cases.0 ∙ script-text c.in-Ok.text.now (split_as c.in-Some.parts) (first_of c.in-Some-2.script) (sym c.in-Some.ensures) spelled.1,
-    c.in_ok-config.ensures)
+    let spelled = rw c.in-Some-2.is at c.in_ok-script.ensures.spelled in (
+      first_of c.in-Some-2.script,
+      spelled.0,
+      sym c.in-Ok.ensures.cases.0 ∙ script-text c.in-Ok.text.now (split_as c.in-Some.parts) (first_of c.in-Some-2.script) (sym c.in-Some.ensures) spelled.1,
+      c.in_ok-config.ensures,
+    )
 
 pub returns-clause-exact : goal.returns-clause-exact
 returns-clause-exact c graph form =

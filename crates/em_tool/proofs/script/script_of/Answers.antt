@@ -1,4 +1,4 @@
-use Rattle.std.proofs.Common.{◌≡◌, ◌∷◌, suc, ℕ, Some, None, arith, refl, sym, ap, ◌∙◌, length}
+use Rattle.std.proofs.Common.{◌≡◌, ◌∷◌, suc, Some, arith, ap, ◌∙◌, length}
 use Rattle.em_tool.specs.Parts.{Split}
 use Rattle.em_tool.specs.Script.{kind_of, values_of}
 use Rattle.em_tool.proofs.Scripts.{first-equals}
@@ -31,5 +31,5 @@ returns-clause-read c f fits is =
     let words : c.in-Some-number_within.words ≡ f.words = cc (read_words) in
     let said : c.in-Some-said_of.said ≡ f.said = cc (read_said) in
     ap Some (first-equals _ _ _ _ _ _ _ _ f
-        (ap (λ (s : Split). s.pool) is) events words (ap (λ (s : Split). s.eo) is) (ap (λ (s : Split). s.queue) is)
-        (ap kind_of same) (ap values_of same) said)
+    (ap (λ (s : Split). s.pool) is) events words (ap (λ (s : Split). s.eo) is) (ap (λ (s : Split). s.queue) is)
+    (ap kind_of same) (ap values_of same) said)

@@ -1,6 +1,5 @@
-use Rattle.std.proofs.Common.{◌≡◌, ◌<◌, ◌≤◌, ◌+◌, ◌++◌, ◌∷◌, [], ℕ, length, take, get_or, Some, rules, arith, refl, sym, ap, ◌∙◌, subst, below_more, take_all}
-use Rattle.std.proofs.lemmas.Grind.{common_steps}
-use Rattle.em_tool.specs.Words.{IsOrder, numbers_of}
+use Rattle.std.proofs.Common.{◌≡◌, take, Some, arith, sym, ap, ◌∙◌, below_more, take_all}
+use Rattle.em_tool.specs.Words.{numbers_of}
 use Rattle.em_tool.proofs.Orders.{numbers_of-injective, numbers_of-push}
 use Rattle.em_tool.proofs.words.order_of.Goals as goal
 

@@ -1,12 +1,12 @@
-use Rattle.std.proofs.Common.{◌≡◌, ◌<◌, ◌∷◌, [], List, ℕ, Some, None, Bool, true, false, not, rules, arith, refl, sym, ap, ◌∙◌, subst}
+use Rattle.std.proofs.Common.{◌≡◌, ◌∷◌, [], Some, Bool, true, false, not, arith, refl, sym, ap, ◌∙◌, subst}
 use lib.Dec.{eqb}
 use lib.Pointwise.{pointwise}
 use Rattle.std.specs.Prelude.{codes}
 use Rattle.std.specs.Fmt.{decimal}
 use Rattle.std.proofs.lemmas.Fmt.{decimal_digit, decimal_injective}
 use Rattle.std.specs.Cmp.Lexicographic.{same_text}
-use Rattle.em_tool.specs.Words.{IsOrder, IsSolo, numbers_of}
-use Rattle.em_tool.specs.Decimal.{spelled, AreNumbers}
+use Rattle.em_tool.specs.Words.{IsOrder, numbers_of}
+use Rattle.em_tool.specs.Decimal.{spelled}
 use Rattle.em_tool.proofs.Orders.{AreNumbers-order, solo-equals}
 use Rattle.em_tool.proofs.words.solo_of.Goals as goal
 
