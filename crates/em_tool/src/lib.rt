@@ -13,3 +13,6 @@ pub mod words;
 
 pub use first_form::parse_first_form;
 pub use words::{Solo, command};
+
+#[cfg(test)]
+mod tests;
