@@ -27,6 +27,10 @@ eqb-eq m n h = by_test (compared m n)
 pub if-own : {A : Type 0} (c : ℕ) (x y : A) → (if c == c then x else y) ≡ x
 if-own c x y = rw (eq-eqb c c refl) refl
 
+pub if-same : {A : Type 0} (b : Bool) (x : A) → (if b then x else x) ≡ x
+if-same true x = refl
+if-same false x = refl
+
 pub some-inj : {A : Type 0} (x y : A) → Some x ≡ Some y → x ≡ y
 some-inj x y e = cc
 

@@ -2,7 +2,7 @@
 use Rattle.std.proofs.Common.{◌≡◌, ◌≢◌, ℕ, zero, suc, ◌+◌, ◌≤◌, ◌<◌, ◌==◌, Bool, true, false, not, ◌&&◌, ◌||◌, List, [], ◌∷◌, ◌++◌, length, Option, Some, None, refl, sym, ◌∙◌, subst, ap, if◌then◌else◌, arith}
 use Rattle.std.specs.List.{flat_map}
 use Rattle.std.proofs.lemmas.List.{map-append}
-use Rattle.std.proofs.lemmas.Bool.{eq-eqb}
+use Rattle.std.proofs.lemmas.Bool.{eq-eqb, false_from_ne_true}
 use Rattle.em_log.specs.declared.declarations.Declarations.{Declarations}
 use Rattle.em_log.specs.declared.ids.Stamp.{Stamp}
 use Rattle.em_log.specs.History.{Past, has}
@@ -51,10 +51,6 @@ has-occ h (x ∷ xs) e = by_test (x == h) e (has-occ h xs)
     by_test true e later = omega arith
     by_test false e later = later e
 
-not-true : (b : Bool) → (b ≡ true → ⊥) → b ≡ false
-not-true true h = absurd (h refl)
-not-true false h = refl
-
 occ-rest : (h x : ℕ) (xs : List ℕ) → occ h xs ≤ occ h (x ∷ xs)
 occ-rest h x xs = by_test (x == h)
   where
@@ -66,7 +62,7 @@ occ-rest h x xs = by_test (x == h)
 pub different : (xs : List ℕ) → ((h : ℕ) → occ h xs ≤ 1) → AreDifferent xs
 different [] once = tt
 different (x ∷ xs) once = (
-  not-true _ (λ there.
+  false_from_ne_true _ (λ there.
       let one : 1 ≤ occ x xs = has-occ x xs there in
       let two : suc (occ x xs) ≤ 1 = subst (λ b. (if b then suc (occ x xs) else occ x xs) ≤ 1) (eq-eqb x x refl) (once x) in omega (arith, one, two)),
   different xs (λ h. let a = occ-rest h x xs in let b = once h in omega (arith, a, b)),

@@ -15,10 +15,7 @@ use Rattle.em_log.specs.Handles.{Minting, Spending, held, with_minted, last_hand
 use Rattle.em_log.specs.Operations.{done, owed_to, first_owed, operations}
 use Rattle.em_log.specs.Places.{Free, Taken, Waiting, Lost, Delayed, taken, taken_by_all, started, has_item, has_entered, taker, entered_place, note_queue, completed_place, application_end, noted_place, place_after, place_of, place_by}
 use Rattle.em_laws.specs.Unchanged.{IsUnchanged}
-
-if-same : {A : Type 0} (b : Bool) (x : A) → (if b then x else x) ≡ x
-if-same true x = refl
-if-same false x = refl
+use Rattle.em_laws.proofs.Cores.{if-same}
 
 find-same : (p r : ℕ → Bool) (xs : List ℕ) → ((x : ℕ) → p x ≡ r x) → find p xs ≡ find r xs
 find-same p r [] same = refl

@@ -4,7 +4,7 @@ use Rattle.std.specs.Prelude.{slice_get}
 use Rattle.std.specs.List.{find}
 use Rattle.std.specs.Option.{option_map, option_map_or}
 use Rattle.std.proofs.lemmas.Nat.{mod-mul-add}
-use Rattle.std.proofs.lemmas.Bool.{eq-eqb}
+use Rattle.std.proofs.lemmas.Bool.{eq-eqb, false_from_ne_true}
 use Rattle.em_log.specs.declared.declarations.Declarations.{Declarations}
 use Rattle.em_log.specs.declared.declarations.PoolShape.{PoolShape}
 use Rattle.em_log.specs.declared.entry.Entry.{Entry}
@@ -133,10 +133,6 @@ reached k l (e ∷ past) small all h there = by_mint (moment-mints k l past e.co
     by_mint (MintsOne i v lt is next) older =
         by_test v i lt is next older (subst (λ o. has (with_handle o (minted past)) h ≡ true) is there) (compared v.handle.0 h)
 
-not-true : (b : Bool) → (b ≡ true → ⊥) → b ≡ false
-not-true true h = absurd (h refl)
-not-true false h = refl
-
 next-fresh : (past : Past) (i h : ℕ) → i < 65536 → h ≡ next_handle past i → IsReached past h → ⊥
 unfolding IsReached
 next-fresh past i h lt is old =
@@ -152,7 +148,7 @@ minted-once k l (e ∷ past) small all = by_mint (moment-mints k l past e.core.0
     by_mint : MintsNext past e.what → AreDifferent (minted past) → AreDifferent (with_handle (minted_in e.what) (minted past))
     by_mint (MintsNothing is) rest = subst (λ o. AreDifferent (with_handle o (minted past))) (sym is) rest
     by_mint (MintsOne i v lt is next) rest =
-        let fresh : has (minted past) v.handle.0 ≡ false = not-true _ (λ there. next-fresh past i v.handle.0 lt next (reached k l past small all.1 v.handle.0 there)) in
+        let fresh : has (minted past) v.handle.0 ≡ false = false_from_ne_true _ (λ there. next-fresh past i v.handle.0 lt next (reached k l past small all.1 v.handle.0 there)) in
         let both : AreDifferent (v.handle.0 ∷ minted past) = (fresh, rest) in
         subst (λ o. AreDifferent (with_handle o (minted past))) (sym is) both
 

@@ -1,7 +1,7 @@
 -- From its acknowledgement of a stop or a change on, no core serves against it.
 use Rattle.std.proofs.Common.{◌≡◌, inl, inr, ℕ, ◌<◌, ◌^◌, ◌==◌, Bool, true, false, not, List, [], ◌∷◌, Option, Some, None, refl, sym, ◌∙◌, subst, ap, arith}
 use Rattle.std.specs.Prelude.{bit_and}
-use Rattle.std.proofs.lemmas.Bool.{eq-eqb}
+use Rattle.std.proofs.lemmas.Bool.{eq-eqb, false_from_ne_true}
 use Rattle.std.specs.Int.Bits.{and_zero_r}
 use Rattle.std.proofs.lemmas.Nat.{and_assoc, and_comm}
 use Rattle.em_log.specs.declared.declarations.Declarations.{Declarations}
@@ -30,10 +30,6 @@ use Rattle.em_laws.proofs.Steps.{contexts, AckerIdle, acker-idle, acked-begun}
 use Rattle.em_laws.proofs.Dones.{Completes, CompletesChange, CompletesStart, FailsStart, CompletesStop, done-completes}
 
 -- pending stops and changes
-
-not-aimed : (b : Bool) → (b ≡ true → ⊥) → b ≡ false
-not-aimed true h = absurd (h refl)
-not-aimed false h = refl
 
 begun-other : (x : ℕ) (job : Begun) (s : EoState) → aims_at_object x job ≡ false → state_begun x job s ≡ s
 begun-other x (Begun.Start y) s h = rw h refl
@@ -72,7 +68,7 @@ done-now k past n ok (CompletesStop o x is job un e global all) = record { start
 -- a Done of an operation, while another with this aim is still pending after it, has not this aim
 done-aside : (k : Declarations) (l : Limits) (past : Past) (d : ℕ) (op : OpId) (ok : Bool) (aims : Begun → Bool) (n : ℕ) (q : DoneNow past op.0)
     → Guards aims → AllAllowed k l past → IsPending past aims n → done (entry_by d (What.Done op ok) ∷ past) n ≡ None → aims q.started.job ≡ false
-done-aside k l past d op ok aims n q guards all p still = not-aimed _ (λ aimed. clash aimed)
+done-aside k l past d op ok aims n q guards all p still = false_from_ne_true _ (λ aimed. clash aimed)
   where
     clash : aims q.started.job ≡ true → ⊥
     clash aimed =
@@ -83,7 +79,7 @@ done-aside k l past d op ok aims n q guards all p still = not-aimed _ (λ aimed.
 begin-aside : (k : Declarations) (l : Limits) (past : Past) (aims : Begun → Bool) (n d : ℕ) (op : OpId) (job : Begun) (notes : List Note)
     → Guards aims → AllAllowed k l past → BeginMoment k past d op job notes → IsPending past aims n → aims job ≡ false
 begin-aside k l past aims n d op job notes guards all m p =
-    not-aimed _ (λ aimed. none-pending past aims n (numbered k l past all n p.started p.begun) (guards k past d job notes m.aim aimed) p)
+    false_from_ne_true _ (λ aimed. none-pending past aims n (numbered k l past all n p.started p.begun) (guards k past d job notes m.aim aimed) p)
 
 object-kept : (k : Declarations) (l : Limits) (past : Past) (d : ℕ) (w : What) (x n : ℕ) → AllAllowed k l past → Moment k l past d w
     → IsPending past (aims_at_object x) n → done (entry_by d w ∷ past) n ≡ None → state k (entry_by d w ∷ past) x ≡ state k past x

@@ -1,5 +1,6 @@
 -- The starts of a list are its first arrivals, in order.
 use Rattle.std.proofs.Common.{◌≡◌, ℕ, ◌+◌, ◌-◌, ◌≤◌, ◌==◌, Bool, true, false, min, List, [], ◌∷◌, ◌++◌, length, map, take, drop, Option, Some, None, refl, sym, ◌∙◌, subst, ap, if◌then◌else◌, arith}
+use Rattle.std.proofs.lemmas.Bool.{false_from_ne_true}
 use Rattle.std.specs.Prelude.{slice_get, unwrap_or}
 use Rattle.std.specs.Option.{option_map_or, option_and_then}
 use Rattle.std.proofs.lemmas.Nat.{mod-mul-add}
@@ -27,15 +28,11 @@ use Rattle.em_log.specs.Lawful.{Allowed, AllAllowed, due}
 use Rattle.em_log.specs.Laws.{HasTaken, Shown, shown_item, starts}
 use Rattle.em_log.proofs.Choices.{IsReady}
 use Rattle.em_log.proofs.Moments.{Moment, TakeMoment, StartMoment, UntakeMoment, EndAtomicMoment, allowed-moment}
-use Rattle.em_laws.proofs.Cores.{Compared, Same, Other, compared, if-own, none-some, some-inj}
+use Rattle.em_laws.proofs.Cores.{if-same, Compared, Same, Other, compared, if-own, none-some, some-inj}
 use Rattle.em_laws.proofs.Served.{cons-some}
 use Rattle.em_laws.proofs.Holders.{held-after, free-none}
 use Rattle.em_laws.proofs.Single.{single, take-begins}
 use Rattle.em_laws.proofs.Lists.{front-kept, without-last, for-queue, waiting-for}
-
-if-same : {A : Type 0} (b : Bool) (x : A) → (if b then x else x) ≡ x
-if-same true x = refl
-if-same false x = refl
 
 -- a core receives from the queue of its last take
 
@@ -340,10 +337,6 @@ unscheduled-not_served Kind.Parallel h i = absurd cc
 unscheduled-not_served Kind.Ordered h i = absurd cc
 unscheduled-not_served Kind.Local h i = absurd cc
 
-not-true : (b : Bool) → (b ≡ true → ⊥) → b ≡ false
-not-true true h = absurd (h refl)
-not-true false h = refl
-
 next-tracked : (k : Declarations) (l : Limits) (past : Past) (d : ℕ) (w : What) (q c : ℕ) → is_served (kind_of k q) ≡ true → AllAllowed k l past → Allowed k l past (entry_by d w)
     → Moment k l past d w → Tracked k past q c → Tracked k (entry_by d w ∷ past) q c
 next-tracked k l past d (What.Take r n t) q c served all allowed m was = tracked-take k l past d r n t q c all allowed m was
@@ -353,7 +346,7 @@ next-tracked k l past d (What.EndAtomic rest cells) q c served all allowed m was
 next-tracked k l past d (What.Dequeue r None) q c served all allowed m was =
     tracked-kept k past d (What.Dequeue r None) q c (λ e. if-same (d == e) _) (λ e. if-same (d == e) _) refl refl was
 next-tracked k l past d (What.Dequeue r (Some v)) q c served all allowed m was =
-    let other : is_for k q c r.0 d ≡ false = not-true _ (λ own.
+    let other : is_for k q c r.0 d ≡ false = false_from_ne_true _ (λ own.
     unscheduled-not_served (kind_of k r.0) m.unscheduled (ap (λ (i : ℕ). is_served (kind_of k i)) (for-queue k q c r.0 d own) ∙ served)) in
     tracked-kept k past d (What.Dequeue r (Some v)) q c (λ e. if-same (d == e) _) (λ e. if-same (d == e) _) refl (rw other refl) was
 next-tracked k l past d w q c served all allowed m was = tracked-kept k past d w q c (λ e. if-same (d == e) _) (λ e. if-same (d == e) _) refl refl was
@@ -386,7 +379,7 @@ take-served k l (e ∷ past) all c q h =
 next-unstarted : (k : Declarations) (l : Limits) (past : Past) (d : ℕ) (w : What) (q c : ℕ) → is_served (kind_of k q) ≡ false → AllAllowed k l past → Moment k l past d w
     → starts k past q c ≡ [] → starts k (entry_by d w ∷ past) q c ≡ []
 next-unstarted k l past d (What.Start r ev s) q c unserved all m none =
-    let other : is_for k q c r.0 d ≡ false = not-true _ (λ own.
+    let other : is_for k q c r.0 d ≡ false = false_from_ne_true _ (λ own.
     let served : is_served (kind_of k r.0) ≡ true = take-served k l past all d r.0 m.queue in
     absurd (cc (served, unserved, ap (λ (i : ℕ). is_served (kind_of k i)) (for-queue k q c r.0 d own)))) in
     rw other none

@@ -1,5 +1,6 @@
 -- Stopped objects are quiet.
 use Rattle.std.proofs.Common.{◌≡◌, ◌≢◌, inr, ℕ, ◌==◌, Bool, true, false, [], ◌∷◌, Option, Some, None, refl, sym, ◌∙◌, subst, ap, if◌then◌else◌}
+use Rattle.std.proofs.lemmas.Bool.{false_from_ne_true}
 use Rattle.std.specs.Option.{option_map_or}
 use Rattle.em_log.specs.declared.declarations.Declarations.{Declarations}
 use Rattle.em_log.specs.declared.entry.What.{What}
@@ -74,12 +75,8 @@ off : (k : Declarations) (past : Past) (x : ℕ) → is_stopped past x ≡ true 
 off k [] x = λ h. absurd (cc h)
 off k (e ∷ past) x = off-after k past x e.core.0 e.what (off k past x)
 
-not-true : (b : Bool) → (b ≡ true → ⊥) → b ≡ false
-not-true true h = absurd (h refl)
-not-true false h = refl
-
 ready-not_stopped : (k : Declarations) (past : Past) (c q : ℕ) → IsReady k past c q → NotStopped k past q
-ready-not_stopped k past c q ready = λ x is. not-true _ (λ stopped.
+ready-not_stopped k past c q ready = λ x is. false_from_ne_true _ (λ stopped.
     let r = ready.runs in
     let same : r.0 ≡ x = some-inj _ _ (sym r.1.0 ∙ is) in
     off k past x stopped (ap (state k past) (sym same) ∙ r.1.1))

@@ -2,7 +2,7 @@
 use Rattle.std.proofs.Common.{◌≡◌, ◌≢◌, ◌⊎◌, inl, inr, ℕ, zero, suc, ◌+◌, ◌-◌, ◌≤◌, ◌<◌, ◌==◌, Bool, true, false, List, [], ◌∷◌, ◌++◌, Option, Some, None, refl, sym, ◌∙◌, subst, ap, if◌then◌else◌, arith}
 use Rattle.std.specs.Prelude.{nat_le}
 use Rattle.std.specs.Option.{option_map}
-use Rattle.std.proofs.lemmas.Bool.{eq-eqb}
+use Rattle.std.proofs.lemmas.Bool.{eq-eqb, false_from_ne_true}
 use Rattle.std.proofs.lemmas.Bool.Decides.{leb_tells}
 use Rattle.em_log.specs.declared.declarations.Declarations.{Declarations}
 use Rattle.em_log.specs.declared.entry.What.{What}
@@ -145,12 +145,8 @@ pub take-released : (k : Declarations) (l : Limits) (past : Past) (d : ℕ) (r :
     → released (entry_by d (What.Take r n t) ∷ past) q ≡ released past q
 take-released k l past d r n t q all = by_test (r.0 == q)
   where
-    not-true : (b : Bool) → (b ≡ true → ⊥) → b ≡ false
-    not-true true h = absurd (h refl)
-    not-true false h = refl
-
     by_test : (b : Bool) → run_from (if b then suc (takes past q) else takes past q) 0 (ended past q) ≡ run_from (takes past q) 0 (ended past q)
-    by_test true = run-last (takes past q) 0 (ended past q) (not-true _ (λ h. let lt = (drawn k l past all).ended q (0 + takes past q) h in omega (arith, lt)))
+    by_test true = run-last (takes past q) 0 (ended past q) (false_from_ne_true _ (λ h. let lt = (drawn k l past all).ended q (0 + takes past q) h in omega (arith, lt)))
     by_test false = refl
 
 -- sends under tickets

@@ -68,62 +68,62 @@ AllFollow k now d (w ∷ ws) = Follows k now d w × AllFollow k (entry_by d w �
 
 -- outputs and lost notes follow anywhere
 
-pub data IsResult (k : Declarations) (w : What) : Type 0 where
-  ResultOut : (q kind : ℕ) (words : List ℕ) → is_output (kind_of k q) ≡ true → w ≡ What.Out (record { 0 = q }) kind words → IsResult k w
-  ResultLost : (n : Note) → w ≡ What.Fault Call.Note (Fault.NoteLost n.queue) None → IsResult k w
+pub data IsLoose (k : Declarations) (w : What) : Type 0 where
+  LooseOut : (q kind : ℕ) (words : List ℕ) → is_output (kind_of k q) ≡ true → w ≡ What.Out (record { 0 = q }) kind words → IsLoose k w
+  LooseLost : (n : Note) → w ≡ What.Fault Call.Note (Fault.NoteLost n.queue) None → IsLoose k w
 
-pub data AllResults (k : Declarations) : List What → Type 0 where
-  NoResults : AllResults k []
-  MoreResults : {w : What} {ws : List What} → IsResult k w → AllResults k ws → AllResults k (w ∷ ws)
+pub data AllLoose (k : Declarations) : List What → Type 0 where
+  NoLoose : AllLoose k []
+  MoreLoose : {w : What} {ws : List What} → IsLoose k w → AllLoose k ws → AllLoose k (w ∷ ws)
 
-results-append : (k : Declarations) {vs ws : List What} → AllResults k vs → AllResults k ws → AllResults k (vs ++ ws)
-results-append k NoResults q = q
-results-append k (MoreResults p ps) q = MoreResults p (results-append k ps q)
+loose-append : (k : Declarations) {vs ws : List What} → AllLoose k vs → AllLoose k ws → AllLoose k (vs ++ ws)
+loose-append k NoLoose q = q
+loose-append k (MoreLoose p ps) q = MoreLoose p (loose-append k ps q)
 
-out-results : (k : Declarations) (past : Past) (s : Sent) → AllResults k (out k past s)
-out-results k past s = by_kind (is_output (kind_of k s.queue)) refl (minting past s.handle)
+out-loose : (k : Declarations) (past : Past) (s : Sent) → AllLoose k (out k past s)
+out-loose k past s = by_kind (is_output (kind_of k s.queue)) refl (minting past s.handle)
   where
-    by_kind : (b : Bool) → is_output (kind_of k s.queue) ≡ b → (m : Option Minting) → AllResults k (if b then out_of s.queue m else [])
-    by_kind false is m = NoResults
-    by_kind true is None = NoResults
-    by_kind true is (Some m) = MoreResults (ResultOut s.queue m.event.kind m.event.words is refl) NoResults
+    by_kind : (b : Bool) → is_output (kind_of k s.queue) ≡ b → (m : Option Minting) → AllLoose k (if b then out_of s.queue m else [])
+    by_kind false is m = NoLoose
+    by_kind true is None = NoLoose
+    by_kind true is (Some m) = MoreLoose (LooseOut s.queue m.event.kind m.event.words is refl) NoLoose
 
-outs-results : (k : Declarations) (past : Past) (ss : List Sent) → AllResults k (outs k past ss)
-outs-results k past [] = NoResults
-outs-results k past (s ∷ ss) = results-append k (out-results k past s) (outs-results k past ss)
+outs-loose : (k : Declarations) (past : Past) (ss : List Sent) → AllLoose k (outs k past ss)
+outs-loose k past [] = NoLoose
+outs-loose k past (s ∷ ss) = loose-append k (out-loose k past s) (outs-loose k past ss)
 
-note-results : (k : Declarations) (now : Past) (d : ℕ) (n : Note) (o : Option ℕ) → AllResults k (note_result k now d n o)
-note-results k now d n None = out-results k now (note_sent d n)
-note-results k now d n (Some why) = MoreResults (ResultLost n refl) NoResults
+note-loose : (k : Declarations) (now : Past) (d : ℕ) (n : Note) (o : Option ℕ) → AllLoose k (note_result k now d n o)
+note-loose k now d n None = out-loose k now (note_sent d n)
+note-loose k now d n (Some why) = MoreLoose (LooseLost n refl) NoLoose
 
-notes-results : (k : Declarations) (now : Past) (d : ℕ) (ns : List Note) → AllResults k (note_results k now d ns)
-notes-results k now d [] = NoResults
-notes-results k now d (n ∷ ns) = results-append k (note-results k now d n (closed k now n.queue.0)) (notes-results k now d ns)
+notes-loose : (k : Declarations) (now : Past) (d : ℕ) (ns : List Note) → AllLoose k (note_results k now d ns)
+notes-loose k now d [] = NoLoose
+notes-loose k now d (n ∷ ns) = loose-append k (note-loose k now d n (closed k now n.queue.0)) (notes-loose k now d ns)
 
-result-follows : (k : Declarations) (past : Past) (d : ℕ) (w : What) → IsResult k w → Follows k past d w
-result-follows k past d w (ResultOut q kind words is e) = Outs q kind words is e
-result-follows k past d w (ResultLost n e) = NoteLost n e
+loose-follows : (k : Declarations) (past : Past) (d : ℕ) (w : What) → IsLoose k w → Follows k past d w
+loose-follows k past d w (LooseOut q kind words is e) = Outs q kind words is e
+loose-follows k past d w (LooseLost n e) = NoteLost n e
 
-results-follow : (k : Declarations) (now : Past) (d : ℕ) (ws : List What) → AllResults k ws → AllFollow k now d ws
-results-follow k now d [] p = tt
-results-follow k now d (w ∷ ws) (MoreResults p ps) = (result-follows k now d w p, results-follow k (entry_by d w ∷ now) d ws ps)
+all-loose : (k : Declarations) (now : Past) (d : ℕ) (ws : List What) → AllLoose k ws → AllFollow k now d ws
+all-loose k now d [] p = tt
+all-loose k now d (w ∷ ws) (MoreLoose p ps) = (loose-follows k now d w p, all-loose k (entry_by d w ∷ now) d ws ps)
 
 -- two histories with the same event groups
 record SameGroups (old new : Past) : Type 0 where
   current : (g a : ℕ) → is_current new g a ≡ is_current old g a
   count : (g : ℕ) → count new g ≡ count old g
 
-result-same : (k : Declarations) (old now : Past) (d : ℕ) (w : What) → IsResult k w → SameGroups old now → SameGroups old (entry_by d w ∷ now)
-result-same k old now d w (ResultOut q kind words is e) same =
+loose-same : (k : Declarations) (old now : Past) (d : ℕ) (w : What) → IsLoose k w → SameGroups old now → SameGroups old (entry_by d w ∷ now)
+loose-same k old now d w (LooseOut q kind words is e) same =
     subst (λ v. SameGroups old (entry_by d v ∷ now)) (sym e) (record { current = same.current; count = same.count })
-result-same k old now d w (ResultLost n e) same =
+loose-same k old now d w (LooseLost n e) same =
     subst (λ v. SameGroups old (entry_by d v ∷ now)) (sym e) (record { current = same.current; count = same.count })
 
-after-results : (k : Declarations) (old now : Past) (d : ℕ) (vs ws : List What) → AllResults k vs → SameGroups old now
+after-loose : (k : Declarations) (old now : Past) (d : ℕ) (vs ws : List What) → AllLoose k vs → SameGroups old now
     → ((new : Past) → SameGroups old new → AllFollow k new d ws) → AllFollow k now d (vs ++ ws)
-after-results k old now d [] ws p same f = f now same
-after-results k old now d (v ∷ vs) ws (MoreResults p ps) same f =
-    (result-follows k now d v p, after-results k old (entry_by d v ∷ now) d vs ws ps (result-same k old now d v p same) f)
+after-loose k old now d [] ws p same f = f now same
+after-loose k old now d (v ∷ vs) ws (MoreLoose p ps) same f =
+    (loose-follows k now d v p, after-loose k old (entry_by d v ∷ now) d vs ws ps (loose-same k old now d v p same) f)
 
 -- the parts of tails
 
@@ -148,13 +148,13 @@ notification-follows k old now d (Some s) same = by_test (is_current old s.group
     by_test true is false zero = tt
     by_test true is true zero = (
       Notifies s (same.current s.group.0 s.app ∙ is) (same.count s.group.0 ∙ eqb-eq _ 0 zero) refl,
-      results-follow k (entry_by d (What.Notify s.group s.app) ∷ now) d _
-          (notes-results k (entry_by d (What.Notify s.group s.app) ∷ old) d (applied_notes old s.group.0)),
+      all-loose k (entry_by d (What.Notify s.group s.app) ∷ now) d _
+          (notes-loose k (entry_by d (What.Notify s.group s.app) ∷ old) d (applied_notes old s.group.0)),
     )
 
 ack-follows : (k : Declarations) (now : Past) (d : ℕ) (op : OpId) → Follows k now d (What.Done op true)
     → AllFollow k now d (completion k now d op)
-ack-follows k now d op f = (f, results-follow k (entry_by d (What.Done op true) ∷ now) d _ (notes-results k (entry_by d (What.Done op true) ∷ now) d (notes_of (operation now op.0))))
+ack-follows k now d op f = (f, all-loose k (entry_by d (What.Done op true) ∷ now) d _ (notes-loose k (entry_by d (What.Done op true) ∷ now) d (notes_of (operation now op.0))))
 
 global_start-follows : (k : Declarations) (before : Past) (d lost : ℕ) (cells : Option Cells) (op : OpId) → context before d ≡ Some (What.Enter (Body.GlobalStart op))
     → AllFollow k (entry_by d (What.End lost cells) ∷ before) d (global_start_tail op (has_failed before d))
@@ -185,8 +185,8 @@ same-groups past = record { current = λ g a. refl; count = λ g. refl }
 receive_end-follows : (k : Declarations) (past now : Past) (d : ℕ)
     → AllFollow k now d (outs k past (let_in past now (open_ticket past d)) ++ notification k now d (open_stamp past d))
 receive_end-follows k past now d =
-    after-results k now now d (outs k past (let_in past now (open_ticket past d))) (notification k now d (open_stamp past d))
-    (outs-results k past (let_in past now (open_ticket past d))) (same-groups now)
+    after-loose k now now d (outs k past (let_in past now (open_ticket past d))) (notification k now d (open_stamp past d))
+    (outs-loose k past (let_in past now (open_ticket past d))) (same-groups now)
     (λ new same. notification-follows k now new d (open_stamp past d) same)
 
 end-follows : (k : Declarations) (before : Past) (d lost : ℕ) (cells : Option Cells) (o : Option What) → context before d ≡ o
@@ -274,10 +274,10 @@ tail_of-follows : (k : Declarations) (l : Limits) (before : Past) (d : ℕ) (w :
 tail_of-follows k l before d (What.Take q n t) b =
     first_start-follows k before d q n t _ (begins-take k l before d (What.Take q n t) q n t b refl) refl
 tail_of-follows k l before d (What.Send h q t s) b =
-    results-follow k _ d _ (outs-results k before (send_entering before d (What.Send h q t s)))
+    all-loose k _ d _ (outs-loose k before (send_entering before d (What.Send h q t s)))
 tail_of-follows k l before d (What.End lost cells) b = end-follows k before d lost cells (context before d) refl
 tail_of-follows k l before d What.EndOrdered b =
-    results-follow k _ d _ (outs-results k before (let_in before (entry_by d What.EndOrdered ∷ before) (open_ticket before d)))
+    all-loose k _ d _ (outs-loose k before (let_in before (entry_by d What.EndOrdered ∷ before) (open_ticket before d)))
 tail_of-follows k l before d What.EndGroup b =
     notification-follows k _ (entry_by d What.EndGroup ∷ before) d (open_stamp before d) (same-groups _)
 tail_of-follows k l before d (What.Ack op) b = by_acked (all_acked k (entry_by d (What.Ack op) ∷ before) op.0) refl
