@@ -1,100 +1,53 @@
 -- The short histories that break the laws.
-use Rattle.std.proofs.Common.{◌≤◌, List, [], ◌∷◌, ◌++◌, Some, None, refl, inl, arith}
+use Rattle.std.specs.Prelude.{T, ltb}
+use Rattle.std.proofs.Common.{◌≡◌, ◌≤◌, ℕ, List, [], ◌∷◌, ◌++◌, length, map, take, Some, None, refl, sym, subst, inl, lit<, arith}
 use Rattle.em_log.specs.declared.declarations.Declarations.{Declarations}
 use Rattle.em_log.specs.declared.ask.Ask.{Ask}
 use Rattle.em_log.specs.declared.entry.Entry.{Entry}
 use Rattle.em_log.specs.declared.ids.Limits.{Limits}
 use Rattle.em_log.specs.History.{Past}
-use Rattle.em_log.specs.Lawful.{Boots, Steps, Takes, Untakes, Asks, Allowed, AllAllowed, Lawful}
-use Rattle.em_log.specs.Laws.{StopQuiet, GroupQuiet, Exclusive, Once}
+use Rattle.em_log.specs.Arrivals.{arrivals}
+use Rattle.em_log.specs.Atomic.{holder}
+use Rattle.em_log.specs.Lawful.{Steps, Boots, Takes, Untakes, Asks, IsNext, Allowed, AllAllowed, Lawful, due}
+use Rattle.em_log.specs.Laws.{OnlyHolder, Once, shown_item, starts, within}
 use Rattle.em_log.proofs.Moments.{allowed-moment}
-use Rattle.em_laws.specs.Broken.{BreaksOnly, two_cores, ten_receives, queue, stop_begun, early_ack, stop_completes, group_changed, excluded_take, excluded_starts, one_inside, second_take, second_starts, aborted, second_notification, given_back, late_start, starts_again, egroup, zero_cells, op}
+use Rattle.em_laws.specs.Broken.{BreaksOnly, StopLaw, GroupLaw, AtomicLaw, OnceLaw, two_cores, ten_receives, queue, op, egroup, zero_cells, stop_begun, early_ack, stop_completes, group_changed, excluded_take, excluded_starts, one_inside, second_take, second_starts, aborted, second_notification, given_back, second_start}
+use Rattle.em_laws.proofs.Cores.{Compared, Same, Other, compared, none-some, some-inj}
 use Rattle.em_laws.proofs.Blocks.{all-before}
 use Rattle.em_laws.proofs.Steps.{acker-idle, contexts}
+use Rattle.em_laws.proofs.Holders.{exclusive}
+use Rattle.em_laws.proofs.Untouched.{stop-obeyed, group-obeyed, atomic-obeyed}
 
 -- a history with an entry that is not allowed is not lawful
 not-lawful : (k : Declarations) (l : Limits) (later : List Entry) (e : Entry) (past : Past) → (Allowed k l past e → ⊥) → Lawful k l (later ++ e ∷ past) → ⊥
 not-lawful k l later e past wrong lawful = wrong (all-before k l later (e ∷ past) lawful.each).0
 
-inside-allowed : AllAllowed two_cores ten_receives one_inside
-inside-allowed = (
-  record { core = omega arith; next = refl },
-  (
-    record { core = omega arith; next = Takes 0 refl refl },
-    (
-      record { core = omega arith; next = Asks (Ask.End None) refl refl },
-      (
-        record { core = omega arith; next = Asks (Ask.Send 65537 (queue 1) None) refl refl },
-        (
-          record { core = omega arith; next = Asks (Ask.Alloc (record { 0 = 0 }) 7 []) refl refl },
-          (
-            record { core = omega arith; next = Asks (Ask.Send 65536 (queue 0) None) refl refl },
-            (
-              record { core = omega arith; next = Asks (Ask.Alloc (record { 0 = 0 }) 7 []) refl refl },
-              (record { core = omega arith; next = Boots refl refl refl }, tt),
-            ),
-          ),
-        ),
-      ),
-    ),
-  ),
-)
+infixr 10 ◌also◌
+◌also◌ : {A : Type 0} {B : Type 0} → A → B → A × B
+x also y = (x, y)
 
-second-wrong : Allowed two_cores ten_receives one_inside second_take → ⊥
-second-wrong allowed =
-    let m = allowed-moment two_cores ten_receives one_inside second_take inside-allowed allowed in
-    absurd (cc m.ready.unheld)
-
-pub two-inside : BreaksOnly two_cores ten_receives (Exclusive two_cores) second_starts second_take one_inside
-two-inside = record {
-  before = record { each = inside-allowed; whole = refl };
-  wrong = second-wrong;
-  after = (record { core = omega arith; next = refl }, tt);
-  whole = refl;
-  broken = λ law. absurd (cc (law.0 0 1 refl));
-  unlawful = not-lawful two_cores ten_receives second_starts second_take one_inside second-wrong;
-}
+-- an entry is allowed: its core is there, and it may come next
+comes : {past : Past} {e : Entry} → T (ltb e.core.0 2) → IsNext two_cores ten_receives past (due two_cores past) e → Allowed two_cores ten_receives past e
+comes c next = record { core = lit< c; next = next }
 
 -- an acknowledgement with a receive open
 
 stop-allowed : AllAllowed two_cores ten_receives stop_begun
-stop-allowed = (
-  record { core = omega arith; next = Asks (Ask.End None) refl refl },
-  (
-    record { core = omega arith; next = Asks (Ask.Free 131073) refl refl },
-    (
-      record { core = omega arith; next = Asks (Ask.Stop (record { 0 = 0 }) []) refl refl },
-      (
-        record { core = omega arith; next = refl },
-        (
-          record { core = omega arith; next = Takes 2 refl refl },
-          (
-            record { core = omega arith; next = refl },
-            (
-              record { core = omega arith; next = Takes 2 refl refl },
-              (
-                record { core = omega arith; next = Asks (Ask.End None) refl refl },
-                (
-                  record { core = omega arith; next = Asks (Ask.Send 65537 (queue 2) None) refl refl },
-                  (
-                    record { core = omega arith; next = Asks (Ask.Alloc (record { 0 = 0 }) 7 []) refl refl },
-                    (
-                      record { core = omega arith; next = Asks (Ask.Send 65536 (queue 2) None) refl refl },
-                      (
-                        record { core = omega arith; next = Asks (Ask.Alloc (record { 0 = 0 }) 7 []) refl refl },
-                        (record { core = omega arith; next = Boots refl refl refl }, tt),
-                      ),
-                    ),
-                  ),
-                ),
-              ),
-            ),
-          ),
-        ),
-      ),
-    ),
-  ),
-)
+stop-allowed =
+    comes tt (Asks (Ask.End None) refl refl)
+    also comes tt (Asks (Ask.Free 131073) refl refl)
+    also comes tt (Asks (Ask.Stop (record { 0 = 0 }) []) refl refl)
+    also comes tt refl
+    also comes tt (Takes 2 refl refl)
+    also comes tt refl
+    also comes tt (Takes 2 refl refl)
+    also comes tt (Asks (Ask.End None) refl refl)
+    also comes tt (Asks (Ask.Send 65537 (queue 2) None) refl refl)
+    also comes tt (Asks (Ask.Alloc (record { 0 = 0 }) 7 []) refl refl)
+    also comes tt (Asks (Ask.Send 65536 (queue 2) None) refl refl)
+    also comes tt (Asks (Ask.Alloc (record { 0 = 0 }) 7 []) refl refl)
+    also comes tt (Boots refl refl refl)
+    also tt
 
 -- an acknowledgement comes from an idle core
 ack-wrong : Allowed two_cores ten_receives stop_begun early_ack → ⊥
@@ -103,207 +56,226 @@ ack-wrong allowed =
     let idle = acker-idle two_cores stop_begun 1 (op 0) (contexts two_cores ten_receives stop_begun stop-allowed) m in
     absurd (cc idle.closed)
 
-pub stop-acked : BreaksOnly two_cores ten_receives (StopQuiet two_cores) stop_completes early_ack stop_begun
+abbrev stop_history : Past
+stop_history = stop_completes ++ early_ack ∷ stop_begun
+
+stop-starts : (q c : ℕ) → starts two_cores stop_history q c ≡ take (length (starts two_cores stop_history q c)) (map shown_item (arrivals two_cores stop_history q c))
+stop-starts q c = by_queue (compared 2 q)
+  where
+    by_queue : Compared 2 q → starts two_cores stop_history q c ≡ take (length (starts two_cores stop_history q c)) (map shown_item (arrivals two_cores stop_history q c))
+    by_queue (Same _ e) = subst (λ i. starts two_cores stop_history i c ≡ take (length (starts two_cores stop_history i c)) (map shown_item (arrivals two_cores stop_history i c))) e refl
+    by_queue (Other f _) = rw f refl
+
+stop-once : Once two_cores stop_history
+stop-once = record {
+  different = refl also refl also tt;
+  sent = tt also tt also tt also tt also tt also tt also tt also tt also tt also tt also tt also tt also tt also tt also tt also tt also refl also tt also refl also tt also tt also tt;
+  started = stop-starts;
+  notified = λ g a. omega arith;
+}
+
+pub stop-acked : BreaksOnly two_cores ten_receives StopLaw stop_completes early_ack stop_begun
 stop-acked = record {
   before = record { each = stop-allowed; whole = refl };
   wrong = ack-wrong;
-  after = (
-    record { core = omega arith; next = refl },
-    (
-      record { core = omega arith; next = refl },
-      (
-        record { core = omega arith; next = Asks (Ask.End None) refl refl },
-        (
-          record { core = omega arith; next = Steps refl refl },
-          (
-            record { core = omega arith; next = refl },
-            (
-              record { core = omega arith; next = Asks (Ask.End None) refl refl },
-              (
-                record { core = omega arith; next = Steps refl refl },
-                tt,
-              ),
-            ),
-          ),
-        ),
-      ),
-    ),
-  );
+  after =
+      comes tt refl
+      also comes tt refl
+      also comes tt (Asks (Ask.End None) refl refl)
+      also comes tt (Steps refl refl)
+      also comes tt refl
+      also comes tt (Asks (Ask.End None) refl refl)
+      also comes tt (Steps refl refl)
+      also tt;
   whole = refl;
   broken = λ law. absurd (cc (law.after.0 1 2 (inl refl) 0 refl));
+  others = (group-obeyed two_cores stop_history refl, atomic-obeyed two_cores stop_history refl, stop-once);
   unlawful = not-lawful two_cores ten_receives stop_completes early_ack stop_begun ack-wrong;
 }
 
 -- a take by a core that a completed change excluded
 
 group-allowed : AllAllowed two_cores ten_receives group_changed
-group-allowed = (
-  record { core = omega arith; next = refl },
-  (
-    record { core = omega arith; next = Steps refl refl },
-    (
-      record { core = omega arith; next = Steps refl refl },
-      (
-        record { core = omega arith; next = Asks (Ask.End None) refl refl },
-        (
-          record { core = omega arith; next = Asks (Ask.Modify (record { 0 = 1 }) 1 []) refl refl },
-          (
-            record { core = omega arith; next = Asks (Ask.Send 65536 (queue 2) None) refl refl },
-            (
-              record { core = omega arith; next = Asks (Ask.Alloc (record { 0 = 0 }) 7 []) refl refl },
-              (
-                record { core = omega arith; next = Boots refl refl refl },
-                tt,
-              ),
-            ),
-          ),
-        ),
-      ),
-    ),
-  ),
-)
+group-allowed =
+    comes tt refl
+    also comes tt (Steps refl refl)
+    also comes tt (Steps refl refl)
+    also comes tt (Asks (Ask.End None) refl refl)
+    also comes tt (Asks (Ask.Modify (record { 0 = 1 }) 1 []) refl refl)
+    also comes tt (Asks (Ask.Send 65536 (queue 2) None) refl refl)
+    also comes tt (Asks (Ask.Alloc (record { 0 = 0 }) 7 []) refl refl)
+    also comes tt (Boots refl refl refl)
+    also tt
 
 excluded-wrong : Allowed two_cores ten_receives group_changed excluded_take → ⊥
 excluded-wrong allowed =
-    let m = allowed-moment two_cores ten_receives group_changed excluded_take group-allowed allowed in
-    absurd (cc m.ready.in_group)
+    let m = allowed-moment two_cores ten_receives group_changed excluded_take group-allowed allowed in absurd (cc m.ready.in_group)
 
-pub excluded-takes : BreaksOnly two_cores ten_receives (GroupQuiet two_cores) excluded_starts excluded_take group_changed
+abbrev group_history : Past
+group_history = excluded_starts ++ excluded_take ∷ group_changed
+
+group-starts : (q c : ℕ) → starts two_cores group_history q c ≡ take (length (starts two_cores group_history q c)) (map shown_item (arrivals two_cores group_history q c))
+group-starts q c = by_queue (compared 2 q)
+  where
+    by_queue : Compared 2 q → starts two_cores group_history q c ≡ take (length (starts two_cores group_history q c)) (map shown_item (arrivals two_cores group_history q c))
+    by_queue (Same _ e) = subst (λ i. starts two_cores group_history i c ≡ take (length (starts two_cores group_history i c)) (map shown_item (arrivals two_cores group_history i c))) e refl
+    by_queue (Other f _) = rw f refl
+
+group-once : Once two_cores group_history
+group-once = record {
+  different = refl also tt;
+  sent = tt also tt also tt also tt also tt also tt also tt also refl also tt also tt also tt;
+  started = group-starts;
+  notified = λ g a. omega arith;
+}
+
+pub excluded-takes : BreaksOnly two_cores ten_receives GroupLaw excluded_starts excluded_take group_changed
 excluded-takes = record {
   before = record { each = group-allowed; whole = refl };
   wrong = excluded-wrong;
-  after = (record { core = omega arith; next = refl }, tt);
+  after = comes tt refl also tt;
   whole = refl;
   broken = λ law. absurd (cc (law.after.0 1 2 (inl refl) 1 1 refl refl));
+  others = (stop-obeyed two_cores group_history refl, atomic-obeyed two_cores group_history refl, group-once);
   unlawful = not-lawful two_cores ten_receives excluded_starts excluded_take group_changed excluded-wrong;
+}
+
+-- two cores in one atomic group
+
+inside-allowed : AllAllowed two_cores ten_receives one_inside
+inside-allowed =
+    comes tt refl
+    also comes tt (Takes 0 refl refl)
+    also comes tt (Asks (Ask.End None) refl refl)
+    also comes tt (Asks (Ask.Send 65537 (queue 1) None) refl refl)
+    also comes tt (Asks (Ask.Alloc (record { 0 = 0 }) 7 []) refl refl)
+    also comes tt (Asks (Ask.Send 65536 (queue 0) None) refl refl)
+    also comes tt (Asks (Ask.Alloc (record { 0 = 0 }) 7 []) refl refl)
+    also comes tt (Boots refl refl refl)
+    also tt
+
+second-wrong : Allowed two_cores ten_receives one_inside second_take → ⊥
+second-wrong allowed =
+    let m = allowed-moment two_cores ten_receives one_inside second_take inside-allowed allowed in absurd (cc m.ready.unheld)
+
+abbrev inside_history : Past
+inside_history = second_starts ++ second_take ∷ one_inside
+
+inside-starts : (q c : ℕ) → starts two_cores inside_history q c ≡ take (length (starts two_cores inside_history q c)) (map shown_item (arrivals two_cores inside_history q c))
+inside-starts q c = by_queue (compared 0 q) (compared 1 q)
+  where
+    by_queue : Compared 0 q → Compared 1 q → starts two_cores inside_history q c ≡ take (length (starts two_cores inside_history q c)) (map shown_item (arrivals two_cores inside_history q c))
+    by_queue (Same _ e) o = subst (λ i. starts two_cores inside_history i c ≡ take (length (starts two_cores inside_history i c)) (map shown_item (arrivals two_cores inside_history i c))) e refl
+    by_queue (Other f _) (Same _ e) = subst (λ i. starts two_cores inside_history i c ≡ take (length (starts two_cores inside_history i c)) (map shown_item (arrivals two_cores inside_history i c))) e refl
+    by_queue (Other f _) (Other g _) = rw (f, g) refl
+
+inside-once : Once two_cores inside_history
+inside-once = record {
+  different = refl also refl also tt;
+  sent = tt also tt also tt also tt also tt also refl also tt also refl also tt also tt also tt;
+  started = inside-starts;
+  notified = λ g a. omega arith;
+}
+
+pub two-inside : BreaksOnly two_cores ten_receives AtomicLaw second_starts second_take one_inside
+two-inside = record {
+  before = record { each = inside-allowed; whole = refl };
+  wrong = second-wrong;
+  after = comes tt refl also tt;
+  whole = refl;
+  broken = λ law. absurd (cc (law.0 0 1 refl));
+  others = (stop-obeyed two_cores inside_history refl, group-obeyed two_cores inside_history refl, inside-once);
+  unlawful = not-lawful two_cores ten_receives second_starts second_take one_inside second-wrong;
 }
 
 -- a second notification after an abort
 
 aborted-allowed : AllAllowed two_cores ten_receives aborted
-aborted-allowed = (
-  record { core = omega arith; next = Asks (Ask.Abort egroup) refl refl },
-  (
-    record { core = omega arith; next = Asks (Ask.Apply egroup 1 []) refl refl },
-    (
-      record { core = omega arith; next = refl },
-      (
-        record { core = omega arith; next = Takes 2 refl refl },
-        (
-          record { core = omega arith; next = refl },
-          (
-            record { core = omega arith; next = Asks (Ask.End None) refl refl },
-            (
-              record { core = omega arith; next = Asks (Ask.Free 131072) refl refl },
-              (
-                record { core = omega arith; next = refl },
-                (
-                  record { core = omega arith; next = Takes 2 refl refl },
-                  (
-                    record { core = omega arith; next = Asks (Ask.End None) refl refl },
-                    (
-                      record { core = omega arith; next = Asks (Ask.Send 65537 (queue 2) None) refl refl },
-                      (
-                        record { core = omega arith; next = Asks (Ask.Alloc (record { 0 = 0 }) 7 []) refl refl },
-                        (
-                          record { core = omega arith; next = Asks (Ask.Send 65536 (queue 2) (Some egroup)) refl refl },
-                          (
-                            record { core = omega arith; next = Asks (Ask.Apply egroup 1 []) refl refl },
-                            (
-                              record { core = omega arith; next = Asks (Ask.Alloc (record { 0 = 0 }) 7 []) refl refl },
-                              (
-                                record { core = omega arith; next = Boots refl refl refl },
-                                tt,
-                              ),
-                            ),
-                          ),
-                        ),
-                      ),
-                    ),
-                  ),
-                ),
-              ),
-            ),
-          ),
-        ),
-      ),
-    ),
-  ),
-)
+aborted-allowed =
+    comes tt (Asks (Ask.Abort egroup) refl refl)
+    also comes tt (Asks (Ask.Apply egroup 1 []) refl refl)
+    also comes tt refl
+    also comes tt (Takes 2 refl refl)
+    also comes tt refl
+    also comes tt (Asks (Ask.End None) refl refl)
+    also comes tt (Asks (Ask.Free 131072) refl refl)
+    also comes tt refl
+    also comes tt (Takes 2 refl refl)
+    also comes tt (Asks (Ask.End None) refl refl)
+    also comes tt (Asks (Ask.Send 65537 (queue 2) None) refl refl)
+    also comes tt (Asks (Ask.Alloc (record { 0 = 0 }) 7 []) refl refl)
+    also comes tt (Asks (Ask.Send 65536 (queue 2) (Some egroup)) refl refl)
+    also comes tt (Asks (Ask.Apply egroup 1 []) refl refl)
+    also comes tt (Asks (Ask.Alloc (record { 0 = 0 }) 7 []) refl refl)
+    also comes tt (Boots refl refl refl)
+    also tt
 
 notification-wrong : Allowed two_cores ten_receives aborted second_notification → ⊥
 notification-wrong allowed =
-    let m = allowed-moment two_cores ten_receives aborted second_notification aborted-allowed allowed in
-    absurd (cc m.current)
+    let m = allowed-moment two_cores ten_receives aborted second_notification aborted-allowed allowed in absurd (cc m.current)
 
-pub notifies-twice : BreaksOnly two_cores ten_receives (Once two_cores) [] second_notification aborted
+abbrev notified_history : Past
+notified_history = second_notification ∷ aborted
+
+pub notifies-twice : BreaksOnly two_cores ten_receives OnceLaw [] second_notification aborted
 notifies-twice = record {
   before = record { each = aborted-allowed; whole = refl };
   wrong = notification-wrong;
   after = tt;
   whole = refl;
   broken = λ law. let once : 2 ≤ 1 = law.notified 0 1 in absurd (omega (arith, once));
+  others = (stop-obeyed two_cores notified_history refl, group-obeyed two_cores notified_history refl, atomic-obeyed two_cores notified_history refl);
   unlawful = not-lawful two_cores ten_receives [] second_notification aborted notification-wrong;
 }
 
 -- an event that is started twice after it was given back
 
 given-allowed : AllAllowed two_cores ten_receives given_back
-given-allowed = (
-  record { core = omega arith; next = Untakes 0 _ _ refl refl refl refl },
-  (
-    record { core = omega arith; next = Asks (Ask.End (Some zero_cells)) refl refl },
-    (
-      record { core = omega arith; next = Asks (Ask.Free 131072) refl refl },
-      (
-        record { core = omega arith; next = refl },
-        (
-          record { core = omega arith; next = Takes 0 refl refl },
-          (
-            record { core = omega arith; next = Asks (Ask.End None) refl refl },
-            (
-              record { core = omega arith; next = Asks (Ask.Send 65537 (queue 0) None) refl refl },
-              (
-                record { core = omega arith; next = Asks (Ask.Alloc (record { 0 = 0 }) 7 []) refl refl },
-                (
-                  record { core = omega arith; next = Asks (Ask.Send 65536 (queue 0) None) refl refl },
-                  (
-                    record { core = omega arith; next = Asks (Ask.Alloc (record { 0 = 0 }) 7 []) refl refl },
-                    (record { core = omega arith; next = Boots refl refl refl }, tt),
-                  ),
-                ),
-              ),
-            ),
-          ),
-        ),
-      ),
-    ),
-  ),
-)
+given-allowed =
+    comes tt refl
+    also comes tt (Takes 0 refl refl)
+    also comes tt (Untakes 0 _ _ refl refl refl refl)
+    also comes tt (Asks (Ask.End (Some zero_cells)) refl refl)
+    also comes tt (Asks (Ask.Free 131072) refl refl)
+    also comes tt refl
+    also comes tt (Takes 0 refl refl)
+    also comes tt (Asks (Ask.End None) refl refl)
+    also comes tt (Asks (Ask.Send 65537 (queue 0) None) refl refl)
+    also comes tt (Asks (Ask.Alloc (record { 0 = 0 }) 7 []) refl refl)
+    also comes tt (Asks (Ask.Send 65536 (queue 0) None) refl refl)
+    also comes tt (Asks (Ask.Alloc (record { 0 = 0 }) 7 []) refl refl)
+    also comes tt (Boots refl refl refl)
+    also tt
 
-start-wrong : Allowed two_cores ten_receives given_back late_start → ⊥
+start-wrong : Allowed two_cores ten_receives given_back second_start → ⊥
 start-wrong allowed =
-    let m = allowed-moment two_cores ten_receives given_back late_start given-allowed allowed in
-    absurd (cc m.taken)
+    let m = allowed-moment two_cores ten_receives given_back second_start given-allowed allowed in absurd (cc m.taken)
 
-pub starts-twice : BreaksOnly two_cores ten_receives (Once two_cores) starts_again late_start given_back
+abbrev started_history : Past
+started_history = second_start ∷ given_back
+
+-- core 0 alone is in the atomic group, and holds it
+started-holder : OnlyHolder two_cores started_history
+started-holder a c h = by_core (compared 0 c)
+  where
+    by_core : Compared 0 c → holder two_cores started_history a ≡ Some c
+    by_core (Same _ e) =
+        let here : within two_cores started_history 0 ≡ Some a = subst (λ i. within two_cores started_history i ≡ Some a) (sym e) h in
+        let group : 0 ≡ a = some-inj 0 a here in
+        subst (λ i. holder two_cores started_history i ≡ Some c) group (subst (λ i. holder two_cores started_history 0 ≡ Some i) e refl)
+    by_core (Other f _) = let none : None ≡ Some a = rw f at h in absurd (none-some a none)
+
+pub starts-twice : BreaksOnly two_cores ten_receives OnceLaw [] second_start given_back
 starts-twice = record {
   before = record { each = given-allowed; whole = refl };
   wrong = start-wrong;
-  after = (
-    record { core = omega arith; next = refl },
-    (
-      record { core = omega arith; next = Takes 0 refl refl },
-      (
-        record { core = omega arith; next = Asks (Ask.End None) refl refl },
-        (
-          record { core = omega arith; next = Asks (Ask.Free 131073) refl refl },
-          tt,
-        ),
-      ),
-    ),
-  );
+  after = tt;
   whole = refl;
   broken = λ law. absurd (cc (law.started 0 0));
-  unlawful = not-lawful two_cores ten_receives starts_again late_start given_back start-wrong;
+  others = (
+    stop-obeyed two_cores started_history refl,
+    group-obeyed two_cores started_history refl,
+    (started-holder, exclusive two_cores ten_receives given_back given-allowed),
+  );
+  unlawful = not-lawful two_cores ten_receives [] second_start given_back start-wrong;
 }

@@ -21,4 +21,5 @@ pub mod Tickets
 pub mod Entering
 pub mod Sends
 pub mod Events
+pub mod Untouched
 pub mod BrokenHistories

@@ -18,19 +18,41 @@ use Rattle.em_log.specs.declared.ids.Stamp.{Stamp}
 use Rattle.em_log.specs.declared.ids.EventGroupId.{EventGroupId}
 use Rattle.em_log.specs.History.{Past, entry_by}
 use Rattle.em_log.specs.Lawful.{Allowed, Lawful, due}
+use Rattle.em_log.specs.Laws.{StopQuiet, GroupQuiet, Exclusive, Once}
 
 -- each of these entries, the newest first, is allowed where it stands
 abbrev pub EachAllowed : Declarations → Limits → Past → List Entry → Type 0
 EachAllowed k l past [] = Unit {0}
 EachAllowed k l past (e ∷ es) = Allowed k l (es ++ past) e × EachAllowed k l past es
 
--- the entry is the only wrong one of the history, and by it the history breaks the law
-pub record BreaksOnly (k : Declarations) (l : Limits) (Law : Past → Type 0) (later : List Entry) (entry : Entry) (past : Past) : Type 0 where
+-- the four laws by name
+pub data LawName : Type 0 where
+  StopLaw : LawName
+  GroupLaw : LawName
+  AtomicLaw : LawName
+  OnceLaw : LawName
+
+abbrev pub Obeys : LawName → Declarations → Past → Type 0
+Obeys StopLaw k past = StopQuiet k past
+Obeys GroupLaw k past = GroupQuiet k past
+Obeys AtomicLaw k past = Exclusive k past
+Obeys OnceLaw k past = Once k past
+
+-- the other three
+abbrev pub ObeysOthers : LawName → Declarations → Past → Type 0
+ObeysOthers StopLaw k past = GroupQuiet k past × Exclusive k past × Once k past
+ObeysOthers GroupLaw k past = StopQuiet k past × Exclusive k past × Once k past
+ObeysOthers AtomicLaw k past = StopQuiet k past × GroupQuiet k past × Once k past
+ObeysOthers OnceLaw k past = StopQuiet k past × GroupQuiet k past × Exclusive k past
+
+-- the entry is the only wrong one of the history, and by it the history breaks this law and no other
+pub record BreaksOnly (k : Declarations) (l : Limits) (law : LawName) (later : List Entry) (entry : Entry) (past : Past) : Type 0 where
   pub before : Lawful k l past
   pub wrong : Allowed k l past entry → ⊥
   pub after : EachAllowed k l (entry ∷ past) later
   pub whole : due k (later ++ entry ∷ past) ≡ []
-  pub broken : Law (later ++ entry ∷ past) → ⊥
+  pub broken : Obeys law k (later ++ entry ∷ past) → ⊥
+  pub others : ObeysOthers law k (later ++ entry ∷ past)
   pub unlawful : Lawful k l (later ++ entry ∷ past) → ⊥
 
 -- two cores and one object that runs; queues 0 and 1 share an atomic group, and queue 2 is parallel in queue group 1
@@ -183,23 +205,17 @@ no_more = []
 
 -- an event that is started twice after it was given back
 
--- core 0 takes two events, starts the first and gives the second back
+-- core 0 takes two events, starts the first, gives the second back, and takes and starts it again
 abbrev pub given_back : Past
 given_back =
-    entry_by 0 (What.Untake (queue 0) 1)
+    entry_by 0 (What.Start (queue 0) (event 131073) None)
+    ∷ entry_by 0 (What.Take (queue 0) 1 None)
+    ∷ entry_by 0 (What.Untake (queue 0) 1)
     ∷ entry_by 0 (What.End 0 (Some zero_cells))
     ∷ entry_by 0 (What.Free (handle 131072))
     ∷ entry_by 0 (What.Start (queue 0) (event 131072) None)
     ∷ entry_by 0 (What.Take (queue 0) 2 None)
     ∷ two_sent 0 0
 
-abbrev pub late_start : Entry
-late_start = entry_by 0 (What.Start (queue 0) (event 131073) None)
-
--- the receive ends, and the event is taken and started again
-abbrev pub starts_again : List Entry
-starts_again =
-    entry_by 0 (What.Start (queue 0) (event 196609) None)
-    ∷ entry_by 0 (What.Take (queue 0) 1 None)
-    ∷ entry_by 0 (What.End 0 None)
-    ∷ entry_by 0 (What.Free (handle 131073)) ∷ []
+abbrev pub second_start : Entry
+second_start = entry_by 0 (What.Start (queue 0) (event 196609) None)
