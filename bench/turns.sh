@@ -3,11 +3,14 @@
 # thread, beside the same loop under std's Mutex, and then at 8 threads beside four busy programs.
 # The ratio says how many times as long a turn of the lock takes.
 cd "$(dirname "$0")/../crates/turn_bench" || exit 1
-rt run > /dev/null || exit 1
+log=$(mktemp)
+rt run > "$log" 2>&1 || { cat "$log"; exit 1; }
+rm "$log"
 out/turn_bench measure || exit 1
 
 busy=
 trap 'kill $busy' EXIT
+trap 'exit 1' INT TERM
 for program in 1 2 3 4; do
     sh -c 'while :; do :; done' &
     busy="$busy $!"

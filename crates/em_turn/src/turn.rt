@@ -14,7 +14,6 @@ use std::hint::spin_loop;
 use std::marker::Model;
 use std::snapshot::Snapshot;
 use std::sync::Wait;
-use std::thread::yield_now;
 
 // The word with the next ticket.
 const TICKET: usize = 0;
@@ -22,10 +21,7 @@ const TICKET: usize = 0;
 // The word with the ticket that has the turn.
 const SERVING: usize = 1;
 
-// How often a seat yields before it sleeps.
-const YIELDS: u32 = 100;
-
-// How often the next in line looks before it yields.
+// How often the next in line looks before it sleeps. No seat yields: that hands a processor to other programs for milliseconds.
 const LOOKS: u32 = 50;
 
 /// A lock round one value. Contracts see which lock it is.
@@ -167,11 +163,8 @@ impl<V: Listed> Turn<V> {
 
     // Returns once the ticket is served, and maybe before. It looks again after it shut the gate, and who passes the turn on looks at the gate after that.
     fn await_turn(&self, wait: &impl Wait, ticket: u64) {
-        for _ in 0..YIELDS {
-            if self.is_served_soon(ticket) {
-                return;
-            }
-            yield_now();
+        if self.is_served_soon(ticket) {
+            return;
         }
         self.gates.shut(ticket);
         if !self.is_served(ticket) {
