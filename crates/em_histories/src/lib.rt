@@ -2,7 +2,7 @@
 //! contracts say so.
 #![tactic(auto)]
 
-ghost use Rattle.em_histories.specs.Ends.{IsLegalUntilQuiet, IsLegalUntilLimit, IsUnlawful};
+ghost use Rattle.em_histories.specs.Ends.{IsLegalUntilQuiet, IsLegalUntilLimit, IsWrongAt, IsUnfinished, IsUnfaithful};
 ghost use Rattle.em_histories.specs.worked.OneEvent as one_event;
 ghost use Rattle.em_histories.specs.worked.OneEventAtTheLimit as one_event_at_the_limit;
 ghost use Rattle.em_histories.specs.worked.OnlyBoot as only_boot;
@@ -80,6 +80,10 @@ ghost use Rattle.em_histories.specs.wrong.MoreReceivesThanTheLimit as more_recei
 ghost use Rattle.em_histories.specs.wrong.NotifiedTwice as notified_twice;
 ghost use Rattle.em_histories.specs.wrong.AbortedApplicationNotifies as aborted_application_notifies;
 ghost use Rattle.em_histories.specs.wrong.ReceivedAgainAfterGivingBack as received_again_after_giving_back;
+ghost use Rattle.em_histories.specs.wrong.AnotherValueSaid as another_value_said;
+ghost use Rattle.em_histories.specs.wrong.BodyCutShort as body_cut_short;
+ghost use Rattle.em_histories.specs.wrong.ErrorBodySkipped as error_body_skipped;
+ghost use Rattle.em_histories.specs.wrong.GlobalErrorBodyInPlaceOfTheObjects as global_error_body_in_place_of_the_objects;
 
 /// Each of these histories is legal, and ends as its subject wants: with nothing left to do, or at the limit on
 /// receives.
@@ -151,24 +155,32 @@ pub fn further_histories()
     ensures stop_and_start_of_two_objects_on_three_cores { IsLegalUntilQuiet stop_and_start_of_two_objects_on_three_cores.graph stop_and_start_of_two_objects_on_three_cores.limits stop_and_start_of_two_objects_on_three_cores.history }
 {}
 
-/// In each of these histories one entry is wrong, so it is not lawful under the graph and the limits that it is told
-/// of.
+/// Each of these histories is wrong at one place, under the graph and the limits of a history above: the entries
+/// before that place were allowed, and the one there is not. So none of them is lawful.
 pub fn wrong_histories()
-    ensures released_in_the_wrong_order { IsUnlawful three_ordered_contexts_end_out_of_order.graph three_ordered_contexts_end_out_of_order.limits released_in_the_wrong_order.history }
-    ensures released_before_its_ticket_is_the_first { IsUnlawful three_ordered_contexts_end_out_of_order.graph three_ordered_contexts_end_out_of_order.limits released_before_its_ticket_is_the_first.history }
-    ensures held_send_that_never_enters { IsUnlawful early_end_of_ordered_processing.graph early_end_of_ordered_processing.limits held_send_that_never_enters.history }
-    ensures acknowledged_while_a_receive_runs { IsUnlawful queue_group_changed_while_a_receive_runs.graph queue_group_changed_while_a_receive_runs.limits acknowledged_while_a_receive_runs.history }
-    ensures done_before_all_have_acknowledged { IsUnlawful queue_group_changed_while_a_receive_runs.graph queue_group_changed_while_a_receive_runs.limits done_before_all_have_acknowledged.history }
-    ensures mask_in_force_before_all_have_acknowledged { IsUnlawful queue_group_changed_while_a_receive_runs.graph queue_group_changed_while_a_receive_runs.limits mask_in_force_before_all_have_acknowledged.history }
-    ensures local_stop_entered_while_a_receive_runs { IsUnlawful object_stopped_while_a_receive_runs.graph object_stopped_while_a_receive_runs.limits local_stop_entered_while_a_receive_runs.history }
-    ensures stale_handle_freed { IsUnlawful freed_twice.graph freed_twice.limits stale_handle_freed.history }
-    ensures spent_handle_sent { IsUnlawful sent_twice.graph sent_twice.limits spent_handle_sent.history }
-    ensures handle_given_again { IsUnlawful pool_empty.graph pool_empty.limits handle_given_again.history }
-    ensures lower_priority_taken { IsUnlawful two_priorities_in_one_atomic_group.graph two_priorities_in_one_atomic_group.limits lower_priority_taken.history }
-    ensures atomic_group_held_by_two_cores { IsUnlawful two_priorities_in_one_atomic_group.graph two_priorities_in_one_atomic_group.limits atomic_group_held_by_two_cores.history }
-    ensures taken_from_a_disabled_queue { IsUnlawful queue_disabled_and_enabled.graph queue_disabled_and_enabled.limits taken_from_a_disabled_queue.history }
-    ensures more_receives_than_the_limit { IsUnlawful limit_of_three.graph limit_of_three.limits more_receives_than_the_limit.history }
-    ensures notified_twice { IsUnlawful application_aborted.graph application_aborted.limits notified_twice.history }
-    ensures aborted_application_notifies { IsUnlawful application_aborted.graph application_aborted.limits aborted_application_notifies.history }
-    ensures received_again_after_giving_back { IsUnlawful burst_given_back_for_a_change.graph burst_given_back_for_a_change.limits received_again_after_giving_back.history }
+    ensures released_in_the_wrong_order { IsWrongAt 32 three_ordered_contexts_end_out_of_order.graph three_ordered_contexts_end_out_of_order.limits released_in_the_wrong_order.history }
+    ensures released_before_its_ticket_is_the_first { IsWrongAt 27 three_ordered_contexts_end_out_of_order.graph three_ordered_contexts_end_out_of_order.limits released_before_its_ticket_is_the_first.history }
+    ensures held_send_that_never_enters { IsUnfinished early_end_of_ordered_processing.graph early_end_of_ordered_processing.limits held_send_that_never_enters.history }
+    ensures acknowledged_while_a_receive_runs { IsWrongAt 14 queue_group_changed_while_a_receive_runs.graph queue_group_changed_while_a_receive_runs.limits acknowledged_while_a_receive_runs.history }
+    ensures done_before_all_have_acknowledged { IsWrongAt 15 queue_group_changed_while_a_receive_runs.graph queue_group_changed_while_a_receive_runs.limits done_before_all_have_acknowledged.history }
+    ensures mask_in_force_before_all_have_acknowledged { IsWrongAt 14 queue_group_changed_while_a_receive_runs.graph queue_group_changed_while_a_receive_runs.limits mask_in_force_before_all_have_acknowledged.history }
+    ensures local_stop_entered_while_a_receive_runs { IsWrongAt 14 object_stopped_while_a_receive_runs.graph object_stopped_while_a_receive_runs.limits local_stop_entered_while_a_receive_runs.history }
+    ensures stale_handle_freed { IsWrongAt 4 freed_twice.graph freed_twice.limits stale_handle_freed.history }
+    ensures spent_handle_sent { IsWrongAt 3 sent_twice.graph sent_twice.limits spent_handle_sent.history }
+    ensures handle_given_again { IsWrongAt 3 pool_empty.graph pool_empty.limits handle_given_again.history }
+    ensures lower_priority_taken { IsWrongAt 6 two_priorities_in_one_atomic_group.graph two_priorities_in_one_atomic_group.limits lower_priority_taken.history }
+    ensures atomic_group_held_by_two_cores { IsWrongAt 8 two_priorities_in_one_atomic_group.graph two_priorities_in_one_atomic_group.limits atomic_group_held_by_two_cores.history }
+    ensures taken_from_a_disabled_queue { IsWrongAt 5 queue_disabled_and_enabled.graph queue_disabled_and_enabled.limits taken_from_a_disabled_queue.history }
+    ensures more_receives_than_the_limit { IsWrongAt 16 limit_of_three.graph limit_of_three.limits more_receives_than_the_limit.history }
+    ensures notified_twice { IsWrongAt 21 application_aborted.graph application_aborted.limits notified_twice.history }
+    ensures aborted_application_notifies { IsWrongAt 15 application_aborted.graph application_aborted.limits aborted_application_notifies.history }
+    ensures received_again_after_giving_back { IsWrongAt 29 burst_given_back_for_a_change.graph burst_given_back_for_a_change.limits received_again_after_giving_back.history }
+{}
+
+/// These are lawful, but in each a context does not follow its body, so they are not legal.
+pub fn unfaithful_histories()
+    ensures another_value_said { IsUnfaithful one_event.graph one_event.limits another_value_said.history }
+    ensures body_cut_short { IsUnfaithful one_event.graph one_event.limits body_cut_short.history }
+    ensures error_body_skipped { IsUnfaithful error_bodies_of_both_scopes.graph error_bodies_of_both_scopes.limits error_body_skipped.history }
+    ensures global_error_body_in_place_of_the_objects { IsUnfaithful error_bodies_of_both_scopes.graph error_bodies_of_both_scopes.limits global_error_body_in_place_of_the_objects.history }
 {}
