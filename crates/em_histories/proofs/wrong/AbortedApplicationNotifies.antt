@@ -4,13 +4,12 @@ use Rattle.em_log.specs.Declarations.{declarations_of}
 use Rattle.em_log.specs.Lawful.{AllAllowed}
 use Rattle.em_log.specs.Lawful as next
 use Rattle.em_histories.specs.Words.{queue, pool, event_group, note}
-use Rattle.em_histories.specs.Ends.{IsWrongAt}
-use Rattle.em_histories.specs.worked.ApplicationAborted.{graph, limits}
-use Rattle.em_histories.specs.wrong.AbortedApplicationNotifies.{history}
+use Rattle.em_histories.specs.Runs.{IsWrongAt}
+use Rattle.em_histories.specs.wrong.AbortedApplicationNotifies.{run}
 use Rattle.em_histories.proofs.Chain.{◌after◌, allowed}
 use Rattle.em_histories.proofs.Refusals.{false-true, moment-of-newest, all-behind}
 
-before : AllAllowed (declarations_of graph) limits (reverse (take 15 history))
+before : AllAllowed (declarations_of run.graph) run.limits (reverse (take 15 run.history))
 before =
     allowed tt (next.Asks (Ask.End None) refl refl)
     after allowed tt (next.Asks (Ask.Free 131073) refl refl)
@@ -29,13 +28,13 @@ before =
     after allowed tt (next.Boots refl refl refl)
     after tt
 
-wrong : AllAllowed (declarations_of graph) limits (reverse (take 16 history)) → ⊥
-wrong all = false-true (moment-of-newest (declarations_of graph) limits (reverse (take 16 history)) all).current
+wrong : AllAllowed (declarations_of run.graph) run.limits (reverse (take 16 run.history)) → ⊥
+wrong all = false-true (moment-of-newest (declarations_of run.graph) run.limits (reverse (take 16 run.history)) all).current
 
-pub is_wrong : IsWrongAt 15 graph limits history
+pub is_wrong : IsWrongAt 15 run
 is_wrong =
     record {
       before = before;
       wrong = wrong;
-      unlawful = λ lawful. wrong (all-behind (declarations_of graph) limits 5 (reverse history) lawful.each);
+      unlawful = λ lawful. wrong (all-behind (declarations_of run.graph) run.limits 5 (reverse run.history) lawful.each);
     }

@@ -4,13 +4,12 @@ use Rattle.em_log.specs.Declarations.{declarations_of}
 use Rattle.em_log.specs.Lawful.{AllAllowed}
 use Rattle.em_log.specs.Lawful as next
 use Rattle.em_histories.specs.Words.{queue, pool}
-use Rattle.em_histories.specs.Ends.{IsWrongAt}
-use Rattle.em_histories.specs.worked.TwoPrioritiesInOneAtomicGroup.{graph, limits}
-use Rattle.em_histories.specs.wrong.AtomicGroupHeldByTwoCores.{history}
+use Rattle.em_histories.specs.Runs.{IsWrongAt}
+use Rattle.em_histories.specs.wrong.AtomicGroupHeldByTwoCores.{run}
 use Rattle.em_histories.proofs.Chain.{◌after◌, allowed}
 use Rattle.em_histories.proofs.Refusals.{false-true, moment-of-newest, all-behind}
 
-before : AllAllowed (declarations_of graph) limits (reverse (take 8 history))
+before : AllAllowed (declarations_of run.graph) run.limits (reverse (take 8 run.history))
 before =
     allowed tt refl
     after allowed tt (next.Takes 1 refl refl)
@@ -22,13 +21,13 @@ before =
     after allowed tt (next.Boots refl refl refl)
     after tt
 
-wrong : AllAllowed (declarations_of graph) limits (reverse (take 9 history)) → ⊥
-wrong all = false-true (moment-of-newest (declarations_of graph) limits (reverse (take 9 history)) all).choice
+wrong : AllAllowed (declarations_of run.graph) run.limits (reverse (take 9 run.history)) → ⊥
+wrong all = false-true (moment-of-newest (declarations_of run.graph) run.limits (reverse (take 9 run.history)) all).choice
 
-pub is_wrong : IsWrongAt 8 graph limits history
+pub is_wrong : IsWrongAt 8 run
 is_wrong =
     record {
       before = before;
       wrong = wrong;
-      unlawful = λ lawful. wrong (all-behind (declarations_of graph) limits 7 (reverse history) lawful.each);
+      unlawful = λ lawful. wrong (all-behind (declarations_of run.graph) run.limits 7 (reverse run.history) lawful.each);
     }

@@ -5,13 +5,12 @@ use Rattle.em_log.specs.Lawful.{AllAllowed}
 use Rattle.em_log.specs.Lawful as next
 use Rattle.em_log.specs.Legal.{IsLegal}
 use Rattle.em_histories.specs.Words.{queue, pool}
-use Rattle.em_histories.specs.Ends.{IsUnfaithful}
-use Rattle.em_histories.specs.worked.ErrorBodiesOfBothScopes.{graph, limits}
-use Rattle.em_histories.specs.wrong.ErrorBodySkipped.{history}
+use Rattle.em_histories.specs.Runs.{IsUnfaithful}
+use Rattle.em_histories.specs.wrong.ErrorBodySkipped.{run}
 use Rattle.em_histories.proofs.Chain.{◌after◌, allowed}
 use Rattle.em_histories.proofs.Refusals.{value_said}
 
-each : AllAllowed (declarations_of graph) limits (reverse history)
+each : AllAllowed (declarations_of run.graph) run.limits (reverse run.history)
 each =
     allowed tt (next.Asks (Ask.End None) refl refl)
     after allowed tt (next.Asks (Ask.Free 131072) refl refl)
@@ -26,11 +25,11 @@ each =
     after allowed tt (next.Boots refl refl refl)
     after tt
 
-illegal : IsLegal graph limits history → ⊥
+illegal : IsLegal run.graph run.limits run.history → ⊥
 unfolding Rattle.em_log.specs.declared.body.Expr.TheBlock.hidden-the_row-Expr-0 denote.Hole.Carrier.hidden Rattle.em_log.specs.declared.body.Stmt.TheBlock.hidden-the_row-Stmt-0
 illegal legal =
     let same : 0 ≡ 201 = ap value_said legal.ended.0.so_far.leads.1.0 in
     absurd (omega (arith, same))
 
-pub is_unfaithful : IsUnfaithful graph limits history
+pub is_unfaithful : IsUnfaithful run
 is_unfaithful = record { lawful = record { each = each; whole = refl }; illegal = illegal }

@@ -4,13 +4,12 @@ use Rattle.em_log.specs.Declarations.{declarations_of}
 use Rattle.em_log.specs.Lawful.{AllAllowed}
 use Rattle.em_log.specs.Lawful as next
 use Rattle.em_histories.specs.Words.{queue, pool}
-use Rattle.em_histories.specs.Ends.{IsUnfinished}
-use Rattle.em_histories.specs.worked.EarlyEndOfOrderedProcessing.{graph, limits}
-use Rattle.em_histories.specs.wrong.HeldSendThatNeverEnters.{history}
+use Rattle.em_histories.specs.Runs.{IsUnfinished}
+use Rattle.em_histories.specs.wrong.HeldSendThatNeverEnters.{run}
 use Rattle.em_histories.proofs.Chain.{◌after◌, allowed}
 use Rattle.em_histories.proofs.Refusals.{nothing-due}
 
-each : AllAllowed (declarations_of graph) limits (reverse history)
+each : AllAllowed (declarations_of run.graph) run.limits (reverse run.history)
 each =
     allowed tt (next.Asks (Ask.End None) refl refl)
     after allowed tt (next.Asks (Ask.Free 131072) refl refl)
@@ -32,5 +31,5 @@ each =
     after allowed tt (next.Boots refl refl refl)
     after tt
 
-pub is_unfinished : IsUnfinished graph limits history
+pub is_unfinished : IsUnfinished run
 is_unfinished = record { each = each; unlawful = λ lawful. nothing-due lawful.whole }

@@ -4,13 +4,12 @@ use Rattle.em_log.specs.Declarations.{declarations_of}
 use Rattle.em_log.specs.Lawful.{AllAllowed}
 use Rattle.em_log.specs.Lawful as next
 use Rattle.em_histories.specs.Words.{queue, pool}
-use Rattle.em_histories.specs.Ends.{IsWrongAt}
-use Rattle.em_histories.specs.worked.TwoPrioritiesInOneAtomicGroup.{graph, limits}
-use Rattle.em_histories.specs.wrong.LowerPriorityTaken.{history}
+use Rattle.em_histories.specs.Runs.{IsWrongAt}
+use Rattle.em_histories.specs.wrong.LowerPriorityTaken.{run}
 use Rattle.em_histories.proofs.Chain.{◌after◌, allowed}
 use Rattle.em_histories.proofs.Refusals.{false-true, moment-of-newest, all-behind}
 
-before : AllAllowed (declarations_of graph) limits (reverse (take 6 history))
+before : AllAllowed (declarations_of run.graph) run.limits (reverse (take 6 run.history))
 before =
     allowed tt (next.Asks (Ask.End None) refl refl)
     after allowed tt (next.Asks (Ask.Send 65537 (queue 1) None) refl refl)
@@ -20,13 +19,13 @@ before =
     after allowed tt (next.Boots refl refl refl)
     after tt
 
-wrong : AllAllowed (declarations_of graph) limits (reverse (take 7 history)) → ⊥
-wrong all = false-true (moment-of-newest (declarations_of graph) limits (reverse (take 7 history)) all).choice
+wrong : AllAllowed (declarations_of run.graph) run.limits (reverse (take 7 run.history)) → ⊥
+wrong all = false-true (moment-of-newest (declarations_of run.graph) run.limits (reverse (take 7 run.history)) all).choice
 
-pub is_wrong : IsWrongAt 6 graph limits history
+pub is_wrong : IsWrongAt 6 run
 is_wrong =
     record {
       before = before;
       wrong = wrong;
-      unlawful = λ lawful. wrong (all-behind (declarations_of graph) limits 9 (reverse history) lawful.each);
+      unlawful = λ lawful. wrong (all-behind (declarations_of run.graph) run.limits 9 (reverse run.history) lawful.each);
     }

@@ -4,13 +4,12 @@ use Rattle.em_log.specs.Declarations.{declarations_of}
 use Rattle.em_log.specs.Lawful.{AllAllowed}
 use Rattle.em_log.specs.Lawful as next
 use Rattle.em_histories.specs.Words.{queue, pool}
-use Rattle.em_histories.specs.Ends.{IsWrongAt}
-use Rattle.em_histories.specs.worked.LimitOfThree.{graph, limits}
-use Rattle.em_histories.specs.wrong.MoreReceivesThanTheLimit.{history}
+use Rattle.em_histories.specs.Runs.{IsWrongAt}
+use Rattle.em_histories.specs.wrong.MoreReceivesThanTheLimit.{run}
 use Rattle.em_histories.proofs.Chain.{◌after◌, allowed}
 use Rattle.em_histories.proofs.Refusals.{false-true, moment-of-newest, all-behind}
 
-before : AllAllowed (declarations_of graph) limits (reverse (take 16 history))
+before : AllAllowed (declarations_of run.graph) run.limits (reverse (take 16 run.history))
 before =
     allowed tt (next.Asks (Ask.End None) refl refl)
     after allowed tt (next.Asks (Ask.Send 262144 (queue 0) None) refl refl)
@@ -30,13 +29,13 @@ before =
     after allowed tt (next.Boots refl refl refl)
     after tt
 
-wrong : AllAllowed (declarations_of graph) limits (reverse (take 17 history)) → ⊥
-wrong all = false-true (moment-of-newest (declarations_of graph) limits (reverse (take 17 history)) all).choice
+wrong : AllAllowed (declarations_of run.graph) run.limits (reverse (take 17 run.history)) → ⊥
+wrong all = false-true (moment-of-newest (declarations_of run.graph) run.limits (reverse (take 17 run.history)) all).choice
 
-pub is_wrong : IsWrongAt 16 graph limits history
+pub is_wrong : IsWrongAt 16 run
 is_wrong =
     record {
       before = before;
       wrong = wrong;
-      unlawful = λ lawful. wrong (all-behind (declarations_of graph) limits 3 (reverse history) lawful.each);
+      unlawful = λ lawful. wrong (all-behind (declarations_of run.graph) run.limits 3 (reverse run.history) lawful.each);
     }

@@ -4,13 +4,12 @@ use Rattle.em_log.specs.Declarations.{declarations_of}
 use Rattle.em_log.specs.Lawful.{AllAllowed}
 use Rattle.em_log.specs.Lawful as next
 use Rattle.em_histories.specs.Words.{queue, pool, queue_group, cells}
-use Rattle.em_histories.specs.Ends.{IsWrongAt}
-use Rattle.em_histories.specs.worked.BurstGivenBackForAChange.{graph, limits}
-use Rattle.em_histories.specs.wrong.ReceivedAgainAfterGivingBack.{history}
+use Rattle.em_histories.specs.Runs.{IsWrongAt}
+use Rattle.em_histories.specs.wrong.ReceivedAgainAfterGivingBack.{run}
 use Rattle.em_histories.proofs.Chain.{◌after◌, allowed}
 use Rattle.em_histories.proofs.Refusals.{next-of-newest, handle_shown, all-behind}
 
-before : AllAllowed (declarations_of graph) limits (reverse (take 29 history))
+before : AllAllowed (declarations_of run.graph) run.limits (reverse (take 29 run.history))
 before =
     allowed tt (next.Takes 0 refl refl)
     after allowed tt refl
@@ -43,15 +42,15 @@ before =
     after allowed tt (next.Boots refl refl refl)
     after tt
 
-wrong : AllAllowed (declarations_of graph) limits (reverse (take 30 history)) → ⊥
+wrong : AllAllowed (declarations_of run.graph) run.limits (reverse (take 30 run.history)) → ⊥
 wrong all =
-    let same : 196609 ≡ 131074 = ap handle_shown (next-of-newest (declarations_of graph) limits (reverse (take 30 history)) all) in
+    let same : 196609 ≡ 131074 = ap handle_shown (next-of-newest (declarations_of run.graph) run.limits (reverse (take 30 run.history)) all) in
     absurd (omega (arith, same))
 
-pub is_wrong : IsWrongAt 29 graph limits history
+pub is_wrong : IsWrongAt 29 run
 is_wrong =
     record {
       before = before;
       wrong = wrong;
-      unlawful = λ lawful. wrong (all-behind (declarations_of graph) limits 3 (reverse history) lawful.each);
+      unlawful = λ lawful. wrong (all-behind (declarations_of run.graph) run.limits 3 (reverse run.history) lawful.each);
     }

@@ -4,13 +4,12 @@ use Rattle.em_log.specs.Declarations.{declarations_of}
 use Rattle.em_log.specs.Lawful.{AllAllowed}
 use Rattle.em_log.specs.Lawful as next
 use Rattle.em_histories.specs.Words.{queue, pool}
-use Rattle.em_histories.specs.Ends.{IsWrongAt}
-use Rattle.em_histories.specs.worked.ThreeOrderedContextsEndOutOfOrder.{graph, limits}
-use Rattle.em_histories.specs.wrong.ReleasedBeforeItsTicketIsTheFirst.{history}
+use Rattle.em_histories.specs.Runs.{IsWrongAt}
+use Rattle.em_histories.specs.wrong.ReleasedBeforeItsTicketIsTheFirst.{run}
 use Rattle.em_histories.proofs.Chain.{◌after◌, allowed}
 use Rattle.em_histories.proofs.Refusals.{next-of-newest, nothing-begins, all-behind}
 
-before : AllAllowed (declarations_of graph) limits (reverse (take 27 history))
+before : AllAllowed (declarations_of run.graph) run.limits (reverse (take 27 run.history))
 before =
     allowed tt (next.Asks (Ask.End None) refl refl)
     after allowed tt (next.Asks (Ask.Say 2) refl refl)
@@ -41,13 +40,13 @@ before =
     after allowed tt (next.Boots refl refl refl)
     after tt
 
-wrong : AllAllowed (declarations_of graph) limits (reverse (take 28 history)) → ⊥
-wrong all = nothing-begins _ _ _ _ _ refl refl refl (next-of-newest (declarations_of graph) limits (reverse (take 28 history)) all)
+wrong : AllAllowed (declarations_of run.graph) run.limits (reverse (take 28 run.history)) → ⊥
+wrong all = nothing-begins _ _ _ _ _ refl refl refl (next-of-newest (declarations_of run.graph) run.limits (reverse (take 28 run.history)) all)
 
-pub is_wrong : IsWrongAt 27 graph limits history
+pub is_wrong : IsWrongAt 27 run
 is_wrong =
     record {
       before = before;
       wrong = wrong;
-      unlawful = λ lawful. wrong (all-behind (declarations_of graph) limits 6 (reverse history) lawful.each);
+      unlawful = λ lawful. wrong (all-behind (declarations_of run.graph) run.limits 6 (reverse run.history) lawful.each);
     }

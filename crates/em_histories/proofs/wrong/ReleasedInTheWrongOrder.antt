@@ -4,13 +4,12 @@ use Rattle.em_log.specs.Declarations.{declarations_of}
 use Rattle.em_log.specs.Lawful.{AllAllowed}
 use Rattle.em_log.specs.Lawful as next
 use Rattle.em_histories.specs.Words.{queue, pool}
-use Rattle.em_histories.specs.Ends.{IsWrongAt}
-use Rattle.em_histories.specs.worked.ThreeOrderedContextsEndOutOfOrder.{graph, limits}
-use Rattle.em_histories.specs.wrong.ReleasedInTheWrongOrder.{history}
+use Rattle.em_histories.specs.Runs.{IsWrongAt}
+use Rattle.em_histories.specs.wrong.ReleasedInTheWrongOrder.{run}
 use Rattle.em_histories.proofs.Chain.{◌after◌, allowed}
 use Rattle.em_histories.proofs.Refusals.{next-of-newest, kind_shown, all-behind}
 
-before : AllAllowed (declarations_of graph) limits (reverse (take 32 history))
+before : AllAllowed (declarations_of run.graph) run.limits (reverse (take 32 run.history))
 before =
     allowed tt (next.Asks (Ask.End None) refl refl)
     after allowed tt (next.Asks (Ask.End None) refl refl)
@@ -46,15 +45,15 @@ before =
     after allowed tt (next.Boots refl refl refl)
     after tt
 
-wrong : AllAllowed (declarations_of graph) limits (reverse (take 33 history)) → ⊥
+wrong : AllAllowed (declarations_of run.graph) run.limits (reverse (take 33 run.history)) → ⊥
 wrong all =
-    let same : 3 ≡ 2 = ap kind_shown (next-of-newest (declarations_of graph) limits (reverse (take 33 history)) all) in
+    let same : 3 ≡ 2 = ap kind_shown (next-of-newest (declarations_of run.graph) run.limits (reverse (take 33 run.history)) all) in
     absurd (omega (arith, same))
 
-pub is_wrong : IsWrongAt 32 graph limits history
+pub is_wrong : IsWrongAt 32 run
 is_wrong =
     record {
       before = before;
       wrong = wrong;
-      unlawful = λ lawful. wrong (all-behind (declarations_of graph) limits 1 (reverse history) lawful.each);
+      unlawful = λ lawful. wrong (all-behind (declarations_of run.graph) run.limits 1 (reverse run.history) lawful.each);
     }

@@ -4,13 +4,12 @@ use Rattle.em_log.specs.Declarations.{declarations_of}
 use Rattle.em_log.specs.Lawful.{AllAllowed}
 use Rattle.em_log.specs.Lawful as next
 use Rattle.em_histories.specs.Words.{queue, pool}
-use Rattle.em_histories.specs.Ends.{IsWrongAt}
-use Rattle.em_histories.specs.worked.QueueDisabledAndEnabled.{graph, limits}
-use Rattle.em_histories.specs.wrong.TakenFromADisabledQueue.{history}
+use Rattle.em_histories.specs.Runs.{IsWrongAt}
+use Rattle.em_histories.specs.wrong.TakenFromADisabledQueue.{run}
 use Rattle.em_histories.proofs.Chain.{◌after◌, allowed}
 use Rattle.em_histories.proofs.Refusals.{false-true, moment-of-newest, all-behind}
 
-before : AllAllowed (declarations_of graph) limits (reverse (take 5 history))
+before : AllAllowed (declarations_of run.graph) run.limits (reverse (take 5 run.history))
 before =
     allowed tt (next.Asks (Ask.End None) refl refl)
     after allowed tt (next.Asks (Ask.Disable (queue 0)) refl refl)
@@ -19,13 +18,13 @@ before =
     after allowed tt (next.Boots refl refl refl)
     after tt
 
-wrong : AllAllowed (declarations_of graph) limits (reverse (take 6 history)) → ⊥
-wrong all = false-true (moment-of-newest (declarations_of graph) limits (reverse (take 6 history)) all).choice
+wrong : AllAllowed (declarations_of run.graph) run.limits (reverse (take 6 run.history)) → ⊥
+wrong all = false-true (moment-of-newest (declarations_of run.graph) run.limits (reverse (take 6 run.history)) all).choice
 
-pub is_wrong : IsWrongAt 5 graph limits history
+pub is_wrong : IsWrongAt 5 run
 is_wrong =
     record {
       before = before;
       wrong = wrong;
-      unlawful = λ lawful. wrong (all-behind (declarations_of graph) limits 3 (reverse history) lawful.each);
+      unlawful = λ lawful. wrong (all-behind (declarations_of run.graph) run.limits 3 (reverse run.history) lawful.each);
     }

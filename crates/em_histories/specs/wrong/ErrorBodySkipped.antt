@@ -6,6 +6,8 @@ use Rattle.em_log.specs.declared.fault.Fault.{Fault}
 use Rattle.em_log.specs.declared.fault.Call.{Call}
 use Rattle.em_log.specs.declared.entry.Entry.{Entry}
 use Rattle.em_histories.specs.Words.{by, queue, pool, object, handle, event}
+use Rattle.em_histories.specs.Runs.{Run}
+use Rattle.em_histories.specs.worked.ErrorBodiesOfBothScopes.{graph, limits}
 
 abbrev pub history : List Entry
 history =
@@ -21,3 +23,6 @@ history =
     ∷ by 0 (What.Free (handle 131072))
     ∷ by 0 (What.End 0 None)
     ∷ []
+
+abbrev pub run : Run
+run = record { graph = graph; limits = limits; history = history }
