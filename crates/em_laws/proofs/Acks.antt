@@ -1,14 +1,11 @@
 -- Acknowledgements only grow, and the last one comes once.
-use Rattle.std.proofs.Common.{◌≡◌, ◌≢◌, ◌⊎◌, inl, inr, ℕ, zero, suc, ◌+◌, ◌<◌, ◌≤◌, ◌==◌, Bool, true, false, not, ◌&&◌, ◌||◌, List, [], ◌∷◌, Option, Some, None, refl, sym, ◌∙◌, subst, ap, if◌then◌else◌, arith}
-use Rattle.std.proofs.lemmas.Bool.{eq-eqb}
-use Rattle.std.specs.List.{list_all, list_any}
+use Rattle.std.proofs.Common.{◌≡◌, ◌⊎◌, inl, inr, ℕ, zero, suc, ◌+◌, ◌<◌, ◌≤◌, ◌==◌, Bool, true, false, ◌||◌, List, [], ◌∷◌, Option, Some, None, refl, sym, ◌∙◌, ap, if◌then◌else◌, arith}
+use Rattle.std.specs.List.{list_all}
 use Rattle.em_log.specs.declared.declarations.Declarations.{Declarations}
-use Rattle.em_log.specs.declared.entry.Entry.{Entry}
 use Rattle.em_log.specs.declared.entry.What.{What}
-use Rattle.em_log.specs.declared.ids.OpId.{OpId}
 use Rattle.em_log.specs.History.{Past, entry_by, has}
 use Rattle.em_log.specs.Declarations.{numbers_from, below}
-use Rattle.em_log.specs.Operations.{acked, acked_by, all_acked, last_if, last_acker, last_acker_by}
+use Rattle.em_log.specs.Operations.{acked, all_acked, last_if, last_acker}
 use Rattle.em_log.proofs.Asked.{and-true}
 use Rattle.em_laws.proofs.Cores.{Compared, Same, Other, compared}
 

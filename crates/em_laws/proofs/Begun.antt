@@ -1,20 +1,18 @@
 -- Operations that have begun: their numbers, and at most one at a time with an aim.
-use Rattle.std.proofs.Common.{◌≡◌, ◌≢◌, ◌⊎◌, inl, inr, ℕ, zero, suc, ◌+◌, ◌<◌, ◌≤◌, ◌==◌, Bool, true, false, not, ◌&&◌, List, [], ◌∷◌, Option, Some, None, refl, sym, ◌∙◌, subst, ap, is_some, if◌then◌else◌, arith}
-use Rattle.std.proofs.lemmas.Bool.{eq-eqb}
+use Rattle.std.proofs.Common.{◌≡◌, ℕ, zero, suc, ◌+◌, ◌<◌, ◌≤◌, ◌==◌, Bool, true, false, not, ◌&&◌, List, [], ◌∷◌, Some, None, refl, sym, ◌∙◌, subst, ap, is_some, if◌then◌else◌, arith}
 use Rattle.em_log.specs.declared.declarations.Declarations.{Declarations}
-use Rattle.em_log.specs.declared.entry.Entry.{Entry}
 use Rattle.em_log.specs.declared.entry.What.{What}
 use Rattle.em_log.specs.declared.entry.Begun.{Begun}
 use Rattle.em_log.specs.declared.ids.OpId.{OpId}
 use Rattle.em_log.specs.declared.ids.Note.{Note}
 use Rattle.em_log.specs.declared.ids.Limits.{Limits}
 use Rattle.em_log.specs.History.{Past, entry_by}
-use Rattle.em_log.specs.Declarations.{numbers_from, below}
+use Rattle.em_log.specs.Declarations.{numbers_from}
 use Rattle.em_log.specs.Operations.{Operation, operation, operations, done, op_id, is_done, is_aim, first_pending, pending}
 use Rattle.em_log.specs.Leads.{aims_at_object, aims_at_group}
 use Rattle.em_log.specs.Lawful.{AllAllowed}
 use Rattle.em_log.proofs.Moments.{Moment, BeginMoment, JobMoment, StartJob, StopJob, ModifyJob, allowed-moment}
-use Rattle.em_laws.proofs.Cores.{Compared, Same, Other, compared, eqb-eq, none-some, some-inj}
+use Rattle.em_laws.proofs.Cores.{Compared, Same, Other, compared, eqb-eq, some-inj}
 
 -- an operation after an entry: it had begun, or begins now
 pub data BegunAfter (past : Past) (n : ℕ) (o : Operation) (d : ℕ) (w : What) : Type 0 where

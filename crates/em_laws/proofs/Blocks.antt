@@ -1,10 +1,10 @@
 -- What is due may be put on, and prefixes at which nothing is due are lawful.
-use Rattle.std.proofs.Common.{◌≡◌, ℕ, ◌<◌, List, [], ◌∷◌, ◌++◌, Option, Some, None, refl, sym, ap, ◌∙◌, subst}
+use Rattle.std.proofs.Common.{◌≡◌, ℕ, ◌<◌, List, [], ◌∷◌, ◌++◌, refl, sym, ap, subst}
 use Rattle.em_log.specs.declared.declarations.Declarations.{Declarations}
 use Rattle.em_log.specs.declared.entry.Entry.{Entry}
 use Rattle.em_log.specs.declared.entry.What.{What}
 use Rattle.em_log.specs.declared.ids.Limits.{Limits}
-use Rattle.em_log.specs.History.{Past, entry_by, entries_by, onto}
+use Rattle.em_log.specs.History.{Past, entries_by, onto}
 use Rattle.em_log.specs.Tails.{tail, tail_of}
 use Rattle.em_log.specs.Lawful.{Begins, Allowed, AllAllowed, IsNext, Lawful, due, due_after}
 

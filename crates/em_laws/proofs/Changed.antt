@@ -1,21 +1,20 @@
 -- Changed queue groups are quiet.
-use Rattle.std.proofs.Common.{◌≡◌, ◌≢◌, ◌⊎◌, inl, inr, ℕ, ◌==◌, Bool, true, false, List, [], ◌∷◌, Option, Some, None, refl, sym, ◌∙◌, subst, ap, if◌then◌else◌}
+use Rattle.std.proofs.Common.{◌≡◌, ℕ, ◌==◌, Bool, true, false, [], ◌∷◌, Option, Some, None, refl, sym, ◌∙◌, subst, ap, if◌then◌else◌}
 use Rattle.std.specs.Option.{option_map_or}
 use Rattle.em_log.specs.declared.declarations.Declarations.{Declarations}
-use Rattle.em_log.specs.declared.entry.Entry.{Entry}
 use Rattle.em_log.specs.declared.entry.What.{What}
 use Rattle.em_log.specs.declared.entry.Begun.{Begun}
 use Rattle.em_log.specs.declared.ids.Limits.{Limits}
 use Rattle.em_log.specs.History.{Past, entry_by}
 use Rattle.em_log.specs.Declarations.{group_of}
-use Rattle.em_log.specs.Operations.{Operation, operation, done}
+use Rattle.em_log.specs.Operations.{operation}
 use Rattle.em_log.specs.States.{mask, mask_done, change, within_change, effective}
-use Rattle.em_log.specs.Eligible.{has_core, is_in_group}
+use Rattle.em_log.specs.Eligible.{has_core}
 use Rattle.em_log.specs.Lawful.{AllAllowed}
 use Rattle.em_log.specs.Laws.{Always, Each, settled_by, settled, InSettled, TakesInSettled, ServedInSettled, GroupQuiet}
 use Rattle.em_log.proofs.Choices.{IsReady}
-use Rattle.em_log.proofs.Moments.{Moment, TakeMoment, DoneMoment, allowed-moment}
-use Rattle.em_laws.proofs.Cores.{Compared, Same, Other, compared, eqb-eq, none-some, some-inj}
+use Rattle.em_log.proofs.Moments.{Moment, allowed-moment}
+use Rattle.em_laws.proofs.Cores.{Compared, Same, Other, compared, none-some, some-inj}
 use Rattle.em_laws.proofs.Served.{Serves, ServesAfter, ServedBefore, TakesNow, serves-after}
 use Rattle.em_laws.proofs.Dones.{Completes, CompletesChange, CompletesStart, FailsStart, CompletesStop, done-completes}
 use Rattle.em_laws.proofs.Respects.{Respects, all-respect, and-core}

@@ -1,18 +1,17 @@
 -- How often a handle stands in lists, and that the lists of all queues hold each entering handle once.
-use Rattle.std.proofs.Common.{◌≡◌, ◌≢◌, ℕ, zero, suc, ◌+◌, ◌≤◌, ◌<◌, ◌==◌, Bool, true, false, not, ◌&&◌, ◌||◌, List, [], ◌∷◌, ◌++◌, length, map, Option, Some, None, refl, sym, ◌∙◌, subst, ap, if◌then◌else◌, arith}
+use Rattle.std.proofs.Common.{◌≡◌, ◌≢◌, ℕ, zero, suc, ◌+◌, ◌≤◌, ◌<◌, ◌==◌, Bool, true, false, not, ◌&&◌, ◌||◌, List, [], ◌∷◌, ◌++◌, length, Option, Some, None, refl, sym, ◌∙◌, subst, ap, if◌then◌else◌, arith}
 use Rattle.std.specs.List.{flat_map}
 use Rattle.std.proofs.lemmas.List.{map-append}
 use Rattle.std.proofs.lemmas.Bool.{eq-eqb}
 use Rattle.em_log.specs.declared.declarations.Declarations.{Declarations}
 use Rattle.em_log.specs.declared.ids.Stamp.{Stamp}
-use Rattle.em_log.specs.declared.entry.Entry.{Entry}
 use Rattle.em_log.specs.History.{Past, has}
 use Rattle.em_log.specs.Declarations.{numbers_from, below, kind_of, is_local}
 use Rattle.em_log.specs.Handles.{Minting, minting}
 use Rattle.em_log.specs.Order.{Sent}
 use Rattle.em_log.specs.Arrivals.{Item, item_of, item, is_for, entering, with_items, arrivals}
 use Rattle.em_log.specs.Laws.{handles_of, entered_in, entered_in_all, AreDifferent}
-use Rattle.em_laws.proofs.Cores.{Compared, Same, Other, compared, eqb-eq}
+use Rattle.em_laws.proofs.Cores.{Compared, Same, Other, compared}
 
 -- how often a number stands in a list
 abbrev pub occ : ℕ → List ℕ → ℕ
@@ -66,11 +65,12 @@ occ-rest h x xs = by_test (x == h)
 -- a list in which nothing stands twice
 pub different : (xs : List ℕ) → ((h : ℕ) → occ h xs ≤ 1) → AreDifferent xs
 different [] once = tt
-different (x ∷ xs) once =
-    (not-true _ (λ there.
-        let one : 1 ≤ occ x xs = has-occ x xs there in
-        let two : suc (occ x xs) ≤ 1 = subst (λ b. (if b then suc (occ x xs) else occ x xs) ≤ 1) (eq-eqb x x refl) (once x) in omega (arith, one, two)),
-     different xs (λ h. let a = occ-rest h x xs in let b = once h in omega (arith, a, b)))
+different (x ∷ xs) once = (
+  not-true _ (λ there.
+      let one : 1 ≤ occ x xs = has-occ x xs there in
+      let two : suc (occ x xs) ≤ 1 = subst (λ b. (if b then suc (occ x xs) else occ x xs) ≤ 1) (eq-eqb x x refl) (once x) in omega (arith, one, two)),
+  different xs (λ h. let a = occ-rest h x xs in let b = once h in omega (arith, a, b)),
+)
 
 -- one of many lists gets more
 
@@ -147,7 +147,7 @@ listed-le k past s lists h q = by_kind (is_local (kind_of k q)) refl
   where
     by_kind : (b : Bool) → is_local (kind_of k q) ≡ b
         → occ h (if b then flat_map (λ c. handles_of (with_one k past s lists q c)) (below k.cores) else handles_of (with_one k past s lists q 0))
-          ≤ occ h (if b then flat_map (λ c. handles_of (lists q c)) (below k.cores) else handles_of (lists q 0)) + (if s.handle == h then 1 else 0)
+        ≤ occ h (if b then flat_map (λ c. handles_of (lists q c)) (below k.cores) else handles_of (lists q 0)) + (if s.handle == h then 1 else 0)
     by_kind true local =
         one-more h s.core (if s.handle == h then 1 else 0) (λ c. handles_of (lists q c)) (λ c. handles_of (with_one k past s lists q c))
         (λ c ne. let same = ap (λ xs. occ h (handles_of xs)) (with-other k past s lists q c (other-core k q c s.queue s.core local ne)) in omega (arith, same))
@@ -176,7 +176,7 @@ listed-other k past s lists h q ne = by_kind (is_local (kind_of k q))
   where
     by_kind : (b : Bool)
         → occ h (if b then flat_map (λ c. handles_of (with_one k past s lists q c)) (below k.cores) else handles_of (with_one k past s lists q 0))
-          ≤ occ h (if b then flat_map (λ c. handles_of (lists q c)) (below k.cores) else handles_of (lists q 0))
+        ≤ occ h (if b then flat_map (λ c. handles_of (lists q c)) (below k.cores) else handles_of (lists q 0))
     by_kind true = let same = same-on k past s lists h q (below k.cores) ne in omega (arith, same)
     by_kind false = let same = ap (λ xs. occ h (handles_of xs)) (with-other k past s lists q 0 (other-queue k q 0 s.queue s.core ne)) in omega (arith, same)
 

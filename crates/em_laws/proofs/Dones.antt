@@ -1,6 +1,5 @@
 -- Each operation is done once, and what stands of it then.
-use Rattle.std.proofs.Common.{◌≡◌, ◌≢◌, ◌⊎◌, inl, inr, ℕ, ◌<◌, ◌==◌, Bool, true, false, List, [], ◌∷◌, Option, Some, None, refl, sym, ◌∙◌, subst, ap, if◌then◌else◌}
-use Rattle.std.proofs.lemmas.Bool.{eq-eqb}
+use Rattle.std.proofs.Common.{◌≡◌, ◌⊎◌, inl, inr, ℕ, ◌<◌, Bool, true, false, [], ◌∷◌, Option, Some, None, refl, sym, ◌∙◌, subst, ap}
 use Rattle.em_log.specs.declared.declarations.Declarations.{Declarations}
 use Rattle.em_log.specs.declared.entry.Entry.{Entry}
 use Rattle.em_log.specs.declared.entry.What.{What}
@@ -12,8 +11,7 @@ use Rattle.em_log.specs.declared.ids.GroupId.{GroupId}
 use Rattle.em_log.specs.declared.ids.Cells.{Cells}
 use Rattle.em_log.specs.declared.ids.Limits.{Limits}
 use Rattle.em_log.specs.History.{Past, entry_by, has}
-use Rattle.em_log.specs.Contexts.{context}
-use Rattle.em_log.specs.Operations.{Operation, operation, done, global_done, acked, all_acked, op_id}
+use Rattle.em_log.specs.Operations.{Operation, operation, done, global_done, acked, all_acked}
 use Rattle.em_log.specs.Lawful.{AllAllowed}
 use Rattle.em_log.specs.Laws.{Always}
 use Rattle.em_log.proofs.Steps.{Owes, OwesAck, OwesGlobalStart, OwesLocalStart, OwesLocalStop, OwesGlobalStop, step-owes}
@@ -21,7 +19,7 @@ use Rattle.em_log.proofs.Moments.{Moment, DoneMoment, DoneChange, DoneStart, Fai
 use Rattle.em_laws.proofs.Cores.{Compared, Same, Other, compared, if-own, none-some, some-inj}
 use Rattle.em_laws.proofs.Acks.{all-acked-has, all-acked-more}
 use Rattle.em_laws.proofs.Begun.{begun-kept}
-use Rattle.em_laws.proofs.Steps.{InStep, InBoot, InGlobalStart, InLocalStart, InLocalStop, InGlobalStop, Contexts, contexts, always-here, always-before, Finishing, FinishingStart, FinishingStop, GlobalEnds, global-ends}
+use Rattle.em_laws.proofs.Steps.{InStep, InBoot, InGlobalStart, InLocalStart, InLocalStop, InGlobalStop, Contexts, contexts, always-here, always-before, Finishing, FinishingStart, FinishingStop, global-ends}
 
 -- what stands of an operation that is done
 pub data Finished (k : Declarations) (past : Past) (n : ℕ) : Type 0 where
@@ -142,7 +140,7 @@ pub completes : (k : Declarations) (l : Limits) (past : Past) (c : ℕ) (op : Op
 completes k l past c op ok all held (DoneChange before was owed acked e) =
     let a = all-before k l past before _ was all in
     let d : Completes k (entry_by c (What.Ack op) ∷ before) op.0 true =
-        completes-change k l before c op a.1 (always-before (AllFinished k) past before _ was held) (step-owes k before c _ owed) (subst (λ p. all_acked k p op.0 ≡ true) was acked) in
+    completes-change k l before c op a.1 (always-before (AllFinished k) past before _ was held) (step-owes k before c _ owed) (subst (λ p. all_acked k p op.0 ≡ true) was acked) in
     told-so k past _ op.0 _ ok was e d
 completes k l past c op ok all held (DoneStart before lost cells was is acked e) =
     let a = all-before k l past _ _ was all in
@@ -150,7 +148,7 @@ completes k l past c op ok all held (DoneStart before lost cells was is acked e)
     let h = subst (Always (AllFinished k)) was held in
     let s = always-here (Contexts k) before (contexts k l before b.0) in
     let d : Completes k (entry_by c (What.Ack op) ∷ entry_by c (What.End lost cells) ∷ before) op.0 true =
-        completes-start k l before c lost cells op a.1 (always-here (AllFinished k) before h.1.1) (s.steps c _ is) (subst (λ p. all_acked k p op.0 ≡ true) was acked) in
+    completes-start k l before c lost cells op a.1 (always-here (AllFinished k) before h.1.1) (s.steps c _ is) (subst (λ p. all_acked k p op.0 ≡ true) was acked) in
     told-so k past _ op.0 _ ok was e d
 completes k l past c op ok all held (FailedStart before lost cells was is e) =
     let a = all-before k l past _ _ was all in
@@ -158,7 +156,7 @@ completes k l past c op ok all held (FailedStart before lost cells was is e) =
     let h = subst (Always (AllFinished k)) was held in
     let s = always-here (Contexts k) before (contexts k l before b.0) in
     let d : Completes k (entry_by c (What.GlobalDone op false) ∷ entry_by c (What.End lost cells) ∷ before) op.0 false =
-        fails-start k l before c lost cells op (always-here (AllFinished k) before h.1.1) (s.steps c _ is) in
+    fails-start k l before c lost cells op (always-here (AllFinished k) before h.1.1) (s.steps c _ is) in
     told-so k past _ op.0 _ ok was e d
 completes k l past c op ok all held (DoneStop before lost cells was is e) =
     let a = all-before k l past _ _ was all in
@@ -166,7 +164,7 @@ completes k l past c op ok all held (DoneStop before lost cells was is e) =
     let h = subst (Always (AllFinished k)) was held in
     let s = always-here (Contexts k) before (contexts k l before b.0) in
     let d : Completes k (entry_by c (What.GlobalDone op true) ∷ entry_by c (What.End lost cells) ∷ before) op.0 true =
-        completes-stop k l before c lost cells op (always-here (AllFinished k) before h.1.1) (s.steps c _ is) in
+    completes-stop k l before c lost cells op (always-here (AllFinished k) before h.1.1) (s.steps c _ is) in
     told-so k past _ op.0 _ ok was e d
 
 -- the end of a global step is told once

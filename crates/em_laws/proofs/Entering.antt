@@ -1,8 +1,7 @@
 -- No handle enters twice.
-use Rattle.std.proofs.Common.{◌≡◌, ◌≢◌, ◌⊎◌, inl, inr, ℕ, zero, suc, ◌+◌, ◌≤◌, ◌<◌, ◌==◌, Bool, true, false, ◌&&◌, ◌||◌, List, [], ◌∷◌, ◌++◌, Option, Some, None, refl, sym, ◌∙◌, subst, ap, is_none, if◌then◌else◌, arith}
+use Rattle.std.proofs.Common.{◌≡◌, ℕ, suc, ◌+◌, ◌≤◌, ◌==◌, Bool, true, false, ◌||◌, List, [], ◌∷◌, Option, Some, None, refl, sym, ◌∙◌, ap, is_none, if◌then◌else◌, arith}
 use Rattle.std.proofs.lemmas.Bool.{eq-eqb}
 use Rattle.em_log.specs.declared.declarations.Declarations.{Declarations}
-use Rattle.em_log.specs.declared.entry.Entry.{Entry}
 use Rattle.em_log.specs.declared.entry.What.{What}
 use Rattle.em_log.specs.declared.ids.Handle.{Handle}
 use Rattle.em_log.specs.declared.ids.QueueId.{QueueId}
@@ -12,12 +11,12 @@ use Rattle.em_log.specs.declared.ids.Stamp.{Stamp}
 use Rattle.em_log.specs.declared.ids.Note.{Note}
 use Rattle.em_log.specs.declared.ids.Limits.{Limits}
 use Rattle.em_log.specs.History.{Past, entry_by, has, note_words}
-use Rattle.em_log.specs.Handles.{Spending, spends, spending, rule}
-use Rattle.em_log.specs.Operations.{Operation, operation, done, notes_of}
+use Rattle.em_log.specs.Handles.{Spending, spending, rule}
+use Rattle.em_log.specs.Operations.{operation, done, notes_of}
 use Rattle.em_log.specs.States.{closed}
-use Rattle.em_log.specs.Order.{Ticket, Sent, open_ticket, ticket_of_send, enters, let_in}
+use Rattle.em_log.specs.Order.{Ticket, open_ticket, ticket_of_send, enters, let_in}
 use Rattle.em_log.specs.Arrivals.{open_notes, send_entering, entering_by, entering}
-use Rattle.em_log.specs.EventGroups.{applications, busy, is_current, applied_notes}
+use Rattle.em_log.specs.EventGroups.{applications, busy, applied_notes}
 use Rattle.em_log.specs.Places.{application_end}
 use Rattle.em_log.specs.Lawful.{AllAllowed}
 use Rattle.em_log.specs.Laws.{AreDifferent, entered_in_all}
@@ -26,8 +25,8 @@ use Rattle.em_log.proofs.Moments.{Moment, SendMoment, DoneMoment, NotifyMoment, 
 use Rattle.em_laws.proofs.Cores.{Compared, Same, Other, compared, eqb-eq}
 use Rattle.em_laws.proofs.Dones.{done-completes}
 use Rattle.em_laws.proofs.Respects.{DoneNow, done-now}
-use Rattle.em_laws.proofs.Counts.{occ, times, times-append, occ-none, has-occ, different, entered, entered-all-le}
-use Rattle.em_laws.proofs.Spent.{IsUsable, usable, spending-kept, spends-now, spends-other, NotesSpent, notes-spent, IsBegunBy, AppliedSpent, applied-spent, IsAppliedBy, Unended, unended, notified-kept}
+use Rattle.em_laws.proofs.Counts.{occ, times, times-append, different, entered, entered-all-le}
+use Rattle.em_laws.proofs.Spent.{usable, spending-kept, spends-now, notes-spent, applied-spent, unended, notified-kept}
 use Rattle.em_laws.proofs.Tickets.{sent_ticket, enters-grow, let-in-none, let-in-gain, one_if}
 
 abbrev pub yes : Option Bool → ℕ
@@ -180,7 +179,7 @@ open-le k now d (n ∷ ns) h = by_closed (is_none (closed k now n.queue.0)) (n.w
   where
     by_closed : (a b : Bool) → times h (open_notes k now d ns) ≤ occ h (note_words ns)
         → times h (if a then record { queue = n.queue.0; core = d; handle = n.word; stamp = None } ∷ open_notes k now d ns else open_notes k now d ns)
-          ≤ (if n.word == h then suc (occ h (note_words ns)) else occ h (note_words ns))
+        ≤ (if n.word == h then suc (occ h (note_words ns)) else occ h (note_words ns))
     by_closed true b later = by_word (n.word == h) later
       where
         by_word : (v : Bool) → times h (open_notes k now d ns) ≤ occ h (note_words ns)
@@ -278,6 +277,6 @@ entered-share k l (e ∷ past) all h =
 pub enters-once : (k : Declarations) (l : Limits) (past : Past) → AllAllowed k l past → AreDifferent (entered_in_all k past)
 enters-once k l past all =
     different (entered_in_all k past) (λ h.
-      let few = entered-all-le k past h in
-      let mine = entered-share k l past all h in
-      let one = share-le past (spending past h) in omega (arith, few, mine, one))
+    let few = entered-all-le k past h in
+    let mine = entered-share k l past all h in
+    let one = share-le past (spending past h) in omega (arith, few, mine, one))

@@ -1,5 +1,4 @@
 -- Each event once.
-use Rattle.std.proofs.Common.{◌≡◌, ℕ}
 use Rattle.em_log.specs.declared.declarations.Declarations.{Declarations}
 use Rattle.em_log.specs.declared.ids.Limits.{Limits}
 use Rattle.em_log.specs.History.{Past}

@@ -1,9 +1,8 @@
 -- A fault leaves everything as it was.
-use Rattle.std.proofs.Common.{◌≡◌, ℕ, ◌+◌, ◌==◌, Bool, true, false, List, [], ◌∷◌, length, Option, Some, None, refl, sym, ◌∙◌, subst, ap, if◌then◌else◌}
+use Rattle.std.proofs.Common.{◌≡◌, ℕ, ◌+◌, ◌==◌, Bool, true, false, List, [], ◌∷◌, length, Option, Some, None, refl, ◌∙◌, ap, if◌then◌else◌}
 use Rattle.std.specs.List.{find}
 use Rattle.std.specs.Option.{option_or, option_map_or}
 use Rattle.em_log.specs.declared.declarations.Declarations.{Declarations}
-use Rattle.em_log.specs.declared.entry.Entry.{Entry}
 use Rattle.em_log.specs.declared.entry.What.{What}
 use Rattle.em_log.specs.declared.fault.Fault.{Fault}
 use Rattle.em_log.specs.declared.fault.Call.{Call}
@@ -12,10 +11,9 @@ use Rattle.em_log.specs.declared.ids.Note.{Note}
 use Rattle.em_log.specs.History.{Past, entry_by}
 use Rattle.em_log.specs.Declarations.{below, kind_of, is_output}
 use Rattle.em_log.specs.Contexts.{context}
-use Rattle.em_log.specs.Handles.{Minting, Spending, rule, held, with_minted, last_handle, minting, spending}
+use Rattle.em_log.specs.Handles.{Minting, Spending, held, with_minted, last_handle, minting, spending}
 use Rattle.em_log.specs.Operations.{done, owed_to, first_owed, operations}
-use Rattle.em_log.specs.Places.{Free, Taken, Waiting, Lost, Delayed, taken, taken_by_all, started, has_item, has_entered, taker, entered_place, note_queue, completed_place, application_end, noted_place, place_after, place_of, place_by, place}
-use Rattle.em_log.specs.Atomic.{has_open_take, holder}
+use Rattle.em_log.specs.Places.{Free, Taken, Waiting, Lost, Delayed, taken, taken_by_all, started, has_item, has_entered, taker, entered_place, note_queue, completed_place, application_end, noted_place, place_after, place_of, place_by}
 use Rattle.em_laws.specs.Unchanged.{IsUnchanged}
 
 if-same : {A : Type 0} (b : Bool) (x : A) → (if b then x else x) ≡ x

@@ -1,5 +1,5 @@
 -- No handle is minted twice.
-use Rattle.std.proofs.Common.{◌≡◌, ◌≢◌, ◌⊎◌, inl, inr, ℕ, zero, suc, ◌+◌, ◌*◌, ◌/◌, ◌≤◌, ◌<◌, ◌==◌, Bool, true, false, ◌∙◌, List, [], ◌∷◌, take, Option, Some, None, refl, ap, sym, subst, arith, if◌then◌else◌}
+use Rattle.std.proofs.Common.{◌≡◌, ℕ, zero, suc, ◌+◌, ◌/◌, ◌≤◌, ◌<◌, ◌==◌, Bool, true, false, ◌∙◌, List, [], ◌∷◌, take, Option, Some, None, refl, ap, sym, subst, arith, if◌then◌else◌}
 use Rattle.std.specs.Prelude.{slice_get}
 use Rattle.std.specs.List.{find}
 use Rattle.std.specs.Option.{option_map, option_map_or}
@@ -18,10 +18,10 @@ use Rattle.em_log.specs.Contexts.{context_object}
 use Rattle.em_log.specs.Handles.{Minting, minting, next_handle, generation, one_more}
 use Rattle.em_log.specs.Arrivals.{Item}
 use Rattle.em_log.specs.Places.{waiting, kept, first_free}
-use Rattle.em_log.specs.Leads.{item_again, kept_again, claimed_from, claimed, dequeued}
+use Rattle.em_log.specs.Leads.{item_again, kept_again, claimed_from, dequeued}
 use Rattle.em_log.specs.Lawful.{AllAllowed}
 use Rattle.em_log.specs.Laws.{AreDifferent}
-use Rattle.em_log.proofs.Moments.{Moment, AllocMoment, StartMoment, ClaimMoment, DequeueMoment, allowed-moment}
+use Rattle.em_log.proofs.Moments.{Moment, allowed-moment}
 use Rattle.em_laws.specs.Minted.{with_handle, minted, HasSmallIndices}
 use Rattle.em_laws.proofs.Cores.{Compared, Same, Other, compared, some-inj}
 
@@ -109,7 +109,7 @@ reached-mint past e i h v lt is next at =
     let gen : generation_of h ≡ generation past i + 1 = ap generation_of here ∙ handle-generation (generation past i + 1) i lt in
     let own : index_of v.handle.0 ≡ index_of h = ap index_of at in
     let now : generation (e ∷ past) (index_of h) ≡ suc (generation past (index_of h)) =
-        ap (λ o. one_more (index_of h) o (generation past (index_of h))) is ∙ (rw (eq-eqb _ _ own) refl) in
+    ap (λ o. one_more (index_of h) o (generation past (index_of h))) is ∙ (rw (eq-eqb _ _ own) refl) in
     let same : generation past (index_of h) ≡ generation past i = ap (generation past) index in
     omega (arith, gen, now, same)
 

@@ -1,24 +1,23 @@
 -- At most one core at a time is in an atomic context, and it is the holder.
-use Rattle.std.proofs.Common.{◌≡◌, ◌≢◌, ◌⊎◌, inl, inr, ℕ, ◌<◌, ◌==◌, Bool, true, false, List, [], ◌∷◌, drop, Option, Some, None, refl, sym, ◌∙◌, subst, ap, is_none, if◌then◌else◌, arith}
+use Rattle.std.proofs.Common.{◌≡◌, ◌≢◌, ℕ, ◌<◌, Bool, true, false, List, [], ◌∷◌, Option, Some, None, refl, sym, ◌∙◌, subst, ap, is_none, if◌then◌else◌}
 use Rattle.std.proofs.lemmas.Bool.{eq-eqb}
 use Rattle.em_log.specs.declared.declarations.Declarations.{Declarations}
-use Rattle.em_log.specs.declared.entry.Entry.{Entry}
 use Rattle.em_log.specs.declared.entry.What.{What}
 use Rattle.em_log.specs.declared.ids.Limits.{Limits}
 use Rattle.em_log.specs.History.{Past, entry_by}
-use Rattle.em_log.specs.Declarations.{below, atomic_of, is_number}
+use Rattle.em_log.specs.Declarations.{atomic_of, is_number}
 use Rattle.em_log.specs.Contexts.{context, context_after, take_queue, take_queue_after}
 use Rattle.em_log.specs.Arrivals.{Item}
 use Rattle.em_log.specs.Places.{taken, taken_after}
 use Rattle.em_log.specs.Atomic.{is_empty, has_open_after, has_open_take, holder}
 use Rattle.em_log.specs.Eligible.{is_unheld}
-use Rattle.em_log.specs.Lawful.{Allowed, AllAllowed}
-use Rattle.em_log.specs.Laws.{Always, HasTaken, within, within_after, OnlyHolder, Exclusive}
+use Rattle.em_log.specs.Lawful.{AllAllowed}
+use Rattle.em_log.specs.Laws.{HasTaken, within, within_after, OnlyHolder, Exclusive}
 use Rattle.em_log.proofs.Asked.{is_none-none}
 use Rattle.em_log.proofs.Choices.{IsReady}
-use Rattle.em_log.proofs.Moments.{Moment, TakeMoment, StartMoment, UntakeMoment, allowed-moment}
-use Rattle.em_laws.proofs.Cores.{Compared, Same, Other, compared, eqb-eq, if-own, none-some, some-inj, find-below, find-none}
-use Rattle.em_laws.proofs.Served.{Serves, ServesAfter, ServedBefore, TakesNow, serves-after, drop-some, cons-some}
+use Rattle.em_log.proofs.Moments.{Moment, allowed-moment}
+use Rattle.em_laws.proofs.Cores.{Compared, Same, Other, compared, eqb-eq, none-some, some-inj, find-below, find-none}
+use Rattle.em_laws.proofs.Served.{drop-some, cons-some}
 
 -- what holds of the open takes after each entry
 pub record Held (k : Declarations) (past : Past) : Type 0 where

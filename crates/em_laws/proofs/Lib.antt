@@ -21,3 +21,4 @@ pub mod Tickets
 pub mod Entering
 pub mod Sends
 pub mod Events
+pub mod BrokenHistories

@@ -1,13 +1,12 @@
 -- The lists of queues: what arrives joins the end, and a queue that is not local has one list for all cores.
-use Rattle.std.proofs.Common.{◌≡◌, ◌≢◌, ℕ, suc, ◌+◌, ◌-◌, ◌≤◌, ◌==◌, Bool, true, false, not, ◌&&◌, ◌||◌, List, [], ◌∷◌, ◌++◌, length, map, take, drop, Option, Some, None, refl, sym, ◌∙◌, subst, ap, if◌then◌else◌, arith}
+use Rattle.std.proofs.Common.{◌≡◌, ℕ, ◌+◌, ◌-◌, ◌≤◌, ◌==◌, Bool, true, false, not, ◌||◌, List, [], ◌∷◌, ◌++◌, length, map, take, drop, Option, Some, None, refl, sym, ◌∙◌, subst, ap, if◌then◌else◌, arith}
 use Rattle.std.specs.Option.{option_map_or}
 use Rattle.std.proofs.lemmas.List.{append-nil, append_assoc, map-append, length-map, length-append, take-append-le, take-append-drop, length-take-le}
 use Rattle.std.proofs.Math.Seq.{take-append_seam}
 use Rattle.em_log.specs.declared.declarations.Declarations.{Declarations}
 use Rattle.em_log.specs.declared.entry.Entry.{Entry}
 use Rattle.em_log.specs.declared.entry.What.{What}
-use Rattle.em_log.specs.declared.entry.Event.{Event}
-use Rattle.em_log.specs.History.{Past, entry_by}
+use Rattle.em_log.specs.History.{Past}
 use Rattle.em_log.specs.Declarations.{kind_of, is_local}
 use Rattle.em_log.specs.Contexts.{receives_from}
 use Rattle.em_log.specs.Order.{Sent}
@@ -15,7 +14,7 @@ use Rattle.em_log.specs.Arrivals.{Item, item, is_for, entering, with_items, arri
 use Rattle.em_log.specs.Places.{gone, gone_after, waiting}
 use Rattle.em_log.specs.Laws.{Shown, shown_item}
 use Rattle.em_log.proofs.Asked.{and-true}
-use Rattle.em_laws.proofs.Cores.{Compared, Same, Other, compared, eqb-eq}
+use Rattle.em_laws.proofs.Cores.{eqb-eq}
 
 pub grows-by : (k : Declarations) (past : Past) (q c : ℕ) (items : List Item) (ss : List Sent) → (ys : List Item) × (with_items k past q c items ss ≡ items ++ ys)
 grows-by k past q c items [] = ([], sym (append-nil items))

@@ -1,36 +1,32 @@
 -- From its acknowledgement of a stop or a change on, no core serves against it.
-use Rattle.std.proofs.Common.{◌≡◌, ◌≢◌, ◌⊎◌, inl, inr, ℕ, ◌<◌, ◌^◌, ◌==◌, Bool, true, false, not, List, [], ◌∷◌, Option, Some, None, refl, sym, ◌∙◌, subst, ap, if◌then◌else◌, arith}
+use Rattle.std.proofs.Common.{◌≡◌, inl, inr, ℕ, ◌<◌, ◌^◌, ◌==◌, Bool, true, false, not, List, [], ◌∷◌, Option, Some, None, refl, sym, ◌∙◌, subst, ap, arith}
 use Rattle.std.specs.Prelude.{bit_and}
-use Rattle.std.specs.Option.{option_map_or}
 use Rattle.std.proofs.lemmas.Bool.{eq-eqb}
 use Rattle.std.specs.Int.Bits.{and_zero_r}
 use Rattle.std.proofs.lemmas.Nat.{and_assoc, and_comm}
 use Rattle.em_log.specs.declared.declarations.Declarations.{Declarations}
-use Rattle.em_log.specs.declared.entry.Entry.{Entry}
 use Rattle.em_log.specs.declared.entry.What.{What}
 use Rattle.em_log.specs.declared.entry.Begun.{Begun}
 use Rattle.em_log.specs.declared.ids.OpId.{OpId}
 use Rattle.em_log.specs.declared.ids.Note.{Note}
-use Rattle.em_log.specs.declared.ids.EoId.{EoId}
-use Rattle.em_log.specs.declared.ids.GroupId.{GroupId}
 use Rattle.em_log.specs.declared.ids.EoState.{EoState}
 use Rattle.em_log.specs.declared.ids.Limits.{Limits}
 use Rattle.em_log.specs.History.{Past, entry_by, has}
 use Rattle.em_log.specs.Declarations.{object_of, group_of}
-use Rattle.em_log.specs.Contexts.{context, received_queue, receives_from, take_queue}
+use Rattle.em_log.specs.Contexts.{context, received_queue, receives_from}
 use Rattle.em_log.specs.Operations.{Operation, operation, operations, done, acked, all_acked, op_id}
 use Rattle.em_log.specs.States.{state, state_begun, state_done, mask, change, change_begun, change_done, within_change, effective}
 use Rattle.em_log.specs.Places.{taken}
-use Rattle.em_log.specs.Eligible.{has_core, is_in_group}
+use Rattle.em_log.specs.Eligible.{has_core}
 use Rattle.em_log.specs.Leads.{aims_at_object, aims_at_group}
 use Rattle.em_log.specs.Lawful.{AllAllowed}
 use Rattle.em_log.proofs.Choices.{IsReady}
-use Rattle.em_log.proofs.Moments.{Moment, BeginMoment, DoneMoment, allowed-moment}
-use Rattle.em_laws.proofs.Cores.{Compared, Same, Other, compared, if-own, none-some, some-inj}
+use Rattle.em_log.proofs.Moments.{Moment, BeginMoment, allowed-moment}
+use Rattle.em_laws.proofs.Cores.{Compared, Same, Other, compared, if-own, some-inj}
 use Rattle.em_laws.proofs.Served.{Serves, ServesAfter, ServedBefore, TakesNow, serves-after}
 use Rattle.em_laws.proofs.Acks.{AckedAfter, AckedBefore, AcksNow, acked-after, all-acked-has}
-use Rattle.em_laws.proofs.Begun.{BegunAfter, BegunBefore, BeginsNow, begun-after, numbered, IsPending, none-pending, undone-before, Alone, alone, Guards, guards-object, guards-group}
-use Rattle.em_laws.proofs.Steps.{Contexts, contexts, AckerIdle, acker-idle, acked-begun}
+use Rattle.em_laws.proofs.Begun.{BegunAfter, BegunBefore, BeginsNow, begun-after, numbered, IsPending, none-pending, undone-before, alone, Guards, guards-object, guards-group}
+use Rattle.em_laws.proofs.Steps.{contexts, AckerIdle, acker-idle, acked-begun}
 use Rattle.em_laws.proofs.Dones.{Completes, CompletesChange, CompletesStart, FailsStart, CompletesStop, done-completes}
 
 -- pending stops and changes
@@ -60,7 +56,6 @@ change-done-other : (g : ℕ) (job : Begun) (s : Option ℕ) → aims_at_group g
 change-done-other g (Begun.Start y) s h = refl
 change-done-other g (Begun.Stop y) s h = refl
 change-done-other g (Begun.Modify i m) s h = rw h refl
-
 
 -- the operation that a Done names, and its job
 pub record DoneNow (past : Past) (n : ℕ) : Type 0 where

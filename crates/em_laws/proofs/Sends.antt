@@ -1,5 +1,5 @@
 -- Each send has entered its queue exactly where the tickets before it have ended.
-use Rattle.std.proofs.Common.{◌≡◌, ◌≢◌, ◌⊎◌, inl, inr, ℕ, zero, suc, ◌+◌, ◌-◌, ◌≤◌, ◌<◌, ◌==◌, Bool, true, false, not, ◌&&◌, ◌||◌, List, [], ◌∷◌, ◌++◌, Option, Some, None, refl, sym, ◌∙◌, subst, ap, if◌then◌else◌, arith}
+use Rattle.std.proofs.Common.{◌≡◌, ◌⊎◌, inl, inr, ℕ, zero, suc, ◌+◌, ◌-◌, ◌≤◌, ◌<◌, ◌==◌, Bool, true, false, ◌||◌, List, [], ◌∷◌, ◌++◌, Option, Some, None, refl, sym, ◌∙◌, subst, ap, if◌then◌else◌, arith}
 use Rattle.std.specs.Prelude.{nat_le}
 use Rattle.std.specs.List.{flat_map}
 use Rattle.std.proofs.lemmas.List.{map-append}
@@ -13,17 +13,17 @@ use Rattle.em_log.specs.declared.ids.Stamp.{Stamp}
 use Rattle.em_log.specs.declared.ids.Limits.{Limits}
 use Rattle.em_log.specs.History.{Past, entry_by, has}
 use Rattle.em_log.specs.Declarations.{numbers_from, below, kind_of, is_local}
-use Rattle.em_log.specs.Handles.{Minting, minting, Spending, spends, spent_by, spending, rule}
+use Rattle.em_log.specs.Handles.{Minting, minting, Spending, spends, spending}
 use Rattle.em_log.specs.Order.{Ticket, Sent, with_number, ended, takes, released, run_from, open_ticket, ticket_of_send, enters, is_ticket, sends_under, sends_under_all, let_in}
 use Rattle.em_log.specs.Arrivals.{Item, item, is_for, send_entering, entering_by, entering, with_items, arrivals}
 use Rattle.em_log.specs.Lawful.{AllAllowed}
 use Rattle.em_log.specs.Laws.{Each, handles_of, entered_in, EntersInTurn}
 use Rattle.em_log.proofs.Moments.{Moment, SendMoment, allowed-moment}
-use Rattle.em_laws.proofs.Cores.{Compared, Same, Other, compared, eqb-eq, some-inj, none-some}
+use Rattle.em_laws.proofs.Cores.{Compared, Same, Other, compared, some-inj, none-some}
 use Rattle.em_laws.proofs.Lists.{grows-by, arrivals-grow}
-use Rattle.em_laws.proofs.Counts.{occ, times, occ-none, entered, entered-in-le}
-use Rattle.em_laws.proofs.Spent.{IsUsable, usable, spending-kept, spends-now, minting-kept}
-use Rattle.em_laws.proofs.Tickets.{released-grows, enters-grow, take-released, nat-le-is, nat-le-false, one_if}
+use Rattle.em_laws.proofs.Counts.{occ-none, entered-in-le}
+use Rattle.em_laws.proofs.Spent.{usable, spending-kept, spends-now, minting-kept}
+use Rattle.em_laws.proofs.Tickets.{take-released, nat-le-is, nat-le-false, one_if}
 use Rattle.em_laws.proofs.Entering.{share, entered-share}
 
 -- members of lists
@@ -75,7 +75,7 @@ goes-in k past q c items (x ∷ xs) s m is (inl e) own =
     let here : has (handles_of (items ++ item past s)) s.handle ≡ true = items-right s.handle items (item past s) (item-has past s m is) in
     let g = grows-by k past q c (items ++ item past s) xs in
     let there : has (handles_of (with_items k past q c (items ++ item past s) xs)) s.handle ≡ true =
-        subst (λ ys. has (handles_of ys) s.handle ≡ true) (sym g.1) (items-left s.handle (items ++ item past s) g.0 here) in
+    subst (λ ys. has (handles_of ys) s.handle ≡ true) (sym g.1) (items-left s.handle (items ++ item past s) g.0 here) in
     subst (λ (y : Sent). has (handles_of (with_items k past q c (if is_for k q c y.queue y.core then items ++ item past y else items) xs)) s.handle ≡ true) (sym e) (rw own there)
 goes-in k past q c items (x ∷ xs) s m is (inr a) own =
     goes-in k past q c (if is_for k q c x.queue x.core then items ++ item past x else items) xs s m is a own
@@ -272,9 +272,10 @@ turn k l now before d w all m kept = tt
 turns : (k : Declarations) (l : Limits) (now past : Past) → AllAllowed k l now → AllAllowed k l past
     → ((h : ℕ) (s : Spending) → spending past h ≡ Some s → spending now h ≡ Some s) → Each (EntersInTurn k now) past
 turns k l now [] all here kept = tt
-turns k l now (e ∷ past) all here kept =
-    (turn k l now past e.core.0 e.what all (allowed-moment k l past e here.1 here.0) kept,
-     turns k l now past all here.1 (λ h s is. kept h s (spending-kept past e.core.0 e.what h s is)))
+turns k l now (e ∷ past) all here kept = (
+  turn k l now past e.core.0 e.what all (allowed-moment k l past e here.1 here.0) kept,
+  turns k l now past all here.1 (λ h s is. kept h s (spending-kept past e.core.0 e.what h s is)),
+)
 
 -- each send has entered its queue exactly where the tickets before it have ended
 pub sends-in-turn : (k : Declarations) (l : Limits) (past : Past) → AllAllowed k l past → Each (EntersInTurn k past) past

@@ -1,17 +1,15 @@
 -- What a core serves: the queue of its open receive, and the queue whose events it has taken.
-use Rattle.std.proofs.Common.{◌≡◌, ◌≢◌, ◌⊎◌, inl, inr, ℕ, suc, ◌==◌, Bool, true, false, List, [], ◌∷◌, drop, Option, Some, None, refl, sym, ◌∙◌, subst, ap, if◌then◌else◌}
+use Rattle.std.proofs.Common.{◌≡◌, ◌≢◌, ◌⊎◌, inl, inr, ℕ, List, [], ◌∷◌, drop, Option, Some, refl, sym, ◌∙◌, subst, ap}
 use Rattle.em_log.specs.declared.declarations.Declarations.{Declarations}
-use Rattle.em_log.specs.declared.entry.Entry.{Entry}
 use Rattle.em_log.specs.declared.entry.What.{What}
 use Rattle.em_log.specs.declared.ids.Limits.{Limits}
 use Rattle.em_log.specs.History.{Past, entry_by}
-use Rattle.em_log.specs.Contexts.{context, context_after, received_queue, receives_from, take_queue, take_queue_after}
+use Rattle.em_log.specs.Contexts.{context, context_after, received_queue, take_queue, take_queue_after}
 use Rattle.em_log.specs.Arrivals.{Item}
 use Rattle.em_log.specs.Places.{taken, taken_after}
 use Rattle.em_log.specs.Laws.{Receives, HasTaken}
-use Rattle.em_log.specs.Lawful.{AllAllowed, Allowed}
 use Rattle.em_log.proofs.Choices.{IsReady}
-use Rattle.em_log.proofs.Moments.{Moment, TakeMoment, StartMoment, allowed-moment}
+use Rattle.em_log.proofs.Moments.{Moment}
 use Rattle.em_laws.proofs.Cores.{Compared, Same, Other, compared, none-some, some-inj}
 
 -- core c has an open receive of queue q, or has taken events of it

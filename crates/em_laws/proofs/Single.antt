@@ -1,5 +1,5 @@
 -- A queue that is not atomic has an event taken only while its start is due.
-use Rattle.std.proofs.Common.{◌≡◌, ◌≢◌, ℕ, suc, ◌==◌, Bool, true, false, List, [], ◌∷◌, take, drop, Option, Some, None, refl, sym, ◌∙◌, subst, ap, if◌then◌else◌}
+use Rattle.std.proofs.Common.{◌≡◌, ◌≢◌, ℕ, false, List, [], ◌∷◌, take, drop, Option, Some, refl, sym, ◌∙◌, subst, ap}
 use Rattle.em_log.specs.declared.declarations.Declarations.{Declarations}
 use Rattle.em_log.specs.declared.entry.Entry.{Entry}
 use Rattle.em_log.specs.declared.entry.What.{What}
@@ -9,15 +9,13 @@ use Rattle.em_log.specs.History.{Past, entry_by, entries_by}
 use Rattle.em_log.specs.Declarations.{kind_of, is_atomic}
 use Rattle.em_log.specs.Contexts.{take_queue, take_queue_after}
 use Rattle.em_log.specs.Arrivals.{Item}
-use Rattle.em_log.specs.Places.{waiting, taken, taken_after}
-use Rattle.em_log.specs.Eligible.{take_size}
+use Rattle.em_log.specs.Places.{taken, taken_after}
 use Rattle.em_log.specs.Tails.{start_of, first_start, tail}
 use Rattle.em_log.specs.Lawful.{Allowed, AllAllowed, IsNext, due, due_after}
 use Rattle.em_log.specs.Laws.{HasTaken}
-use Rattle.em_log.proofs.Choices.{IsReady}
 use Rattle.em_log.proofs.Follows.{Follows, FirstStart, Outs, NoteLost, AcksStart, AcksStop, GlobalStarts, GlobalStops, ChangeDone, StartDone, StartFailed, StopDone, Notifies, AllDue}
 use Rattle.em_log.proofs.Inversion.{due-follows}
-use Rattle.em_log.proofs.Moments.{Moment, TakeMoment, allowed-moment}
+use Rattle.em_log.proofs.Moments.{Moment, allowed-moment}
 use Rattle.em_laws.proofs.Cores.{Compared, Same, Other, compared, if-own, some-inj}
 use Rattle.em_laws.proofs.Served.{drop-some}
 

@@ -1,6 +1,5 @@
 -- How a handle is spent: once, and the notes of an ask each by that ask.
-use Rattle.std.proofs.Common.{◌≡◌, ◌≢◌, ◌⊎◌, inl, inr, ℕ, zero, suc, ◌+◌, ◌≤◌, ◌<◌, ◌==◌, Bool, true, false, ◌&&◌, ◌||◌, List, [], ◌∷◌, length, Option, Some, None, refl, sym, ◌∙◌, subst, ap, if◌then◌else◌, arith}
-use Rattle.std.proofs.lemmas.Bool.{eq-eqb}
+use Rattle.std.proofs.Common.{◌≡◌, ℕ, suc, ◌≤◌, ◌<◌, ◌==◌, Bool, true, false, ◌&&◌, List, [], ◌∷◌, length, Option, Some, None, refl, sym, ◌∙◌, subst, ap, if◌then◌else◌, arith}
 use Rattle.std.specs.Option.{option_or}
 use Rattle.em_log.specs.declared.declarations.Declarations.{Declarations}
 use Rattle.em_log.specs.declared.entry.Entry.{Entry}
@@ -12,7 +11,7 @@ use Rattle.em_log.specs.declared.ids.Note.{Note}
 use Rattle.em_log.specs.declared.ids.OpId.{OpId}
 use Rattle.em_log.specs.declared.ids.EventGroupId.{EventGroupId}
 use Rattle.em_log.specs.declared.ids.Limits.{Limits}
-use Rattle.em_log.specs.History.{Past, entry_by, has, names, note_words, minted_in}
+use Rattle.em_log.specs.History.{Past, entry_by, has, note_words, minted_in}
 use Rattle.em_log.specs.Handles.{Minting, minting_by, minting, Spending, spends, spent_by, spending, rule_of, rule}
 use Rattle.em_log.specs.Operations.{Operation, operation, op_id}
 use Rattle.em_log.specs.EventGroups.{applications, busy, is_current, applied_notes}
@@ -20,7 +19,7 @@ use Rattle.em_log.specs.Places.{application_end}
 use Rattle.em_log.specs.Leads.{notes_refusal}
 use Rattle.em_log.specs.Lawful.{AllAllowed}
 use Rattle.em_log.proofs.Asked.{and-true}
-use Rattle.em_log.proofs.Moments.{Moment, BeginMoment, ApplyMoment, AbortMoment, NotifyMoment, allowed-moment}
+use Rattle.em_log.proofs.Moments.{Moment, BeginMoment, allowed-moment}
 use Rattle.em_laws.proofs.Cores.{Compared, Same, Other, compared, eqb-eq}
 use Rattle.em_laws.proofs.Begun.{BegunAfter, BegunBefore, BeginsNow, begun-after}
 use Rattle.em_laws.proofs.Counts.{occ}
@@ -140,12 +139,16 @@ next-notes k l past d w n o m older at = by_begun (begun-after past d w n o at)
     now : BeginMoment k past d (op_id n) o.job o.notes → NotesSpent (entry_by d (What.Begin (op_id n) o.job o.notes) ∷ past) n o.notes
     now b = record {
       spent = λ h there.
-        let u = usable past d h (notes-usable past d [] o.notes b.usable h there) in
-        record {
-          before = past; core = d; op = op_id n; job = o.job; notes = o.notes;
-          spent = spends-now past d (What.Begin (op_id n) o.job o.notes) h u.unspent there;
-          number = refl;
-        };
+          let u = usable past d h (notes-usable past d [] o.notes b.usable h there) in
+          record {
+            before = past;
+            core = d;
+            op = op_id n;
+            job = o.job;
+            notes = o.notes;
+            spent = spends-now past d (What.Begin (op_id n) o.job o.notes) h u.unspent there;
+            number = refl;
+          };
       once = λ h. (notes-once past d [] o.notes b.usable h).once;
     }
 
@@ -178,8 +181,15 @@ pub record AppliedSpent (past : Past) (g : ℕ) : Type 0 where
 
 applied-by-kept : (past : Past) (d : ℕ) (w : What) (h g a : ℕ) → IsAppliedBy past h g a → IsAppliedBy (entry_by d w ∷ past) h g a
 applied-by-kept past d w h g a b = record {
-  before = b.before; core = b.core; group = b.group; app = b.app; count = b.count; notes = b.notes; spent = spending-kept past d w h _ b.spent;
-  same_group = b.same_group; number = b.number;
+  before = b.before;
+  core = b.core;
+  group = b.group;
+  app = b.app;
+  count = b.count;
+  notes = b.notes;
+  spent = spending-kept past d w h _ b.spent;
+  same_group = b.same_group;
+  number = b.number;
 }
 
 next-applied : (k : Declarations) (l : Limits) (past : Past) (d : ℕ) (w : What) (g : ℕ) → Moment k l past d w → AppliedSpent past g → AppliedSpent (entry_by d w ∷ past) g
@@ -193,13 +203,19 @@ next-applied k l past d (What.Apply i a n notes) g m older = by_test (compared i
         let number : a ≡ applications now g = m.number ∙ omega arith ∙ ap suc (ap (applications past) e) ∙ (rw t refl) in
         record {
           spent = λ h there.
-            let here : has (note_words notes) h ≡ true = rw t at there in
-            let u = usable past d h (notes-usable past d [] notes m.usable h here) in
-            record {
-              before = past; core = d; group = i; app = a; count = n; notes = notes;
-              spent = spends-now past d (What.Apply i a n notes) h u.unspent here;
-              same_group = e; number = number;
-            };
+              let here : has (note_words notes) h ≡ true = rw t at there in
+              let u = usable past d h (notes-usable past d [] notes m.usable h here) in
+              record {
+                before = past;
+                core = d;
+                group = i;
+                app = a;
+                count = n;
+                notes = notes;
+                spent = spends-now past d (What.Apply i a n notes) h u.unspent here;
+                same_group = e;
+                number = number;
+              };
           once = λ h. rw t ((notes-once past d [] notes m.usable h).once);
         }
     by_test (Other f e) = record {

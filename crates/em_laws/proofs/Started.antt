@@ -1,12 +1,11 @@
 -- The starts of a list are its first arrivals, in order.
-use Rattle.std.proofs.Common.{◌≡◌, ◌≢◌, ℕ, suc, ◌+◌, ◌-◌, ◌*◌, ◌%◌, ◌≤◌, ◌<◌, ◌==◌, Bool, true, false, not, ◌&&◌, ◌||◌, min, List, [], ◌∷◌, ◌++◌, length, map, take, drop, Option, Some, None, refl, sym, ◌∙◌, subst, ap, is_none, if◌then◌else◌, arith}
+use Rattle.std.proofs.Common.{◌≡◌, ℕ, ◌+◌, ◌-◌, ◌≤◌, ◌==◌, Bool, true, false, min, List, [], ◌∷◌, ◌++◌, length, map, take, drop, Option, Some, None, refl, sym, ◌∙◌, subst, ap, if◌then◌else◌, arith}
 use Rattle.std.specs.Prelude.{slice_get, unwrap_or}
 use Rattle.std.specs.Option.{option_map_or, option_and_then}
 use Rattle.std.proofs.lemmas.Nat.{mod-mul-add}
-use Rattle.std.proofs.lemmas.List.{append-nil, append_assoc, map-append, length-map, length-drop, take-map, drop-map, take-append-drop}
+use Rattle.std.proofs.lemmas.List.{append-nil, append_assoc, length-map, length-drop, take-map, drop-map, take-append-drop}
 use Rattle.std.proofs.Math.Seq.{take-add, take-append_seam}
 use Rattle.em_log.specs.declared.declarations.Declarations.{Declarations}
-use Rattle.em_log.specs.declared.entry.Entry.{Entry}
 use Rattle.em_log.specs.declared.entry.What.{What}
 use Rattle.em_log.specs.declared.entry.Event.{Event}
 use Rattle.em_log.specs.declared.ids.Kind.{Kind}
@@ -15,24 +14,24 @@ use Rattle.em_log.specs.declared.ids.Cells.{Cells}
 use Rattle.em_log.specs.declared.declarations.QueueShape.{QueueShape}
 use Rattle.em_log.specs.declared.ids.Limits.{Limits}
 use Rattle.em_log.specs.declared.ids.QueueId.{QueueId}
-use Rattle.em_log.specs.History.{Past, entry_by, index_of, handle_of}
-use Rattle.em_log.specs.Declarations.{kind_of, is_local, is_served, is_unscheduled, is_atomic, lone_count, atomic_in, atomic_of}
+use Rattle.em_log.specs.History.{Past, entry_by, index_of}
+use Rattle.em_log.specs.Declarations.{kind_of, is_served, is_unscheduled, is_atomic, lone_count, atomic_in, atomic_of}
 use Rattle.em_log.specs.Contexts.{context, context_after, received_queue, receives_from, take_queue, take_queue_after}
 use Rattle.em_log.specs.Handles.{next_handle, generation}
 use Rattle.em_log.specs.Arrivals.{Item, is_for, arrivals}
-use Rattle.em_log.specs.Places.{gone, gone_after, waiting, taken, taken_after, promised}
-use Rattle.em_log.specs.Atomic.{has_open_take, if_holder, received_atomic, holds}
+use Rattle.em_log.specs.Places.{gone, waiting, taken, promised}
+use Rattle.em_log.specs.Atomic.{if_holder, received_atomic, holds}
 use Rattle.em_log.specs.Eligible.{take_size}
 use Rattle.em_log.specs.Leads.{item_again}
 use Rattle.em_log.specs.Lawful.{Allowed, AllAllowed, due}
 use Rattle.em_log.specs.Laws.{HasTaken, Shown, shown_item, starts}
 use Rattle.em_log.proofs.Choices.{IsReady}
-use Rattle.em_log.proofs.Moments.{Moment, TakeMoment, StartMoment, UntakeMoment, EndAtomicMoment, DequeueMoment, allowed-moment}
+use Rattle.em_log.proofs.Moments.{Moment, TakeMoment, StartMoment, UntakeMoment, EndAtomicMoment, allowed-moment}
 use Rattle.em_laws.proofs.Cores.{Compared, Same, Other, compared, if-own, none-some, some-inj}
-use Rattle.em_laws.proofs.Served.{drop-some, cons-some}
-use Rattle.em_laws.proofs.Holders.{Held, held-after, free-none}
-use Rattle.em_laws.proofs.Single.{OneTaken, single, take-begins}
-use Rattle.em_laws.proofs.Lists.{FrontKept, front-kept, without-last, for-queue, waiting-for}
+use Rattle.em_laws.proofs.Served.{cons-some}
+use Rattle.em_laws.proofs.Holders.{held-after, free-none}
+use Rattle.em_laws.proofs.Single.{single, take-begins}
+use Rattle.em_laws.proofs.Lists.{front-kept, without-last, for-queue, waiting-for}
 
 if-same : {A : Type 0} (b : Bool) (x : A) → (if b then x else x) ≡ x
 if-same true x = refl
@@ -98,7 +97,7 @@ aside k past d w q c not_before not_after same_starts same_gone (Busy b holding 
         let same_queue : take_queue (entry_by d w ∷ past) b ≡ take_queue past b = rw f refl in
         Busy b ((λ e. holding.0.0 (sym same_taken ∙ e), same_queue ∙ holding.0.1), holding.1) (λ e h. alone e h (compared d e))
         (ap (λ xs. xs ++ map shown_item (taken k (entry_by d w ∷ past) b)) same_starts ∙ ap (λ xs. starts k past q c ++ map shown_item xs) same_taken
-          ∙ track ∙ sym g.front ∙ ap (λ n. take n (map shown_item (arrivals k (entry_by d w ∷ past) q c))) (sym same_gone))
+        ∙ track ∙ sym g.front ∙ ap (λ n. take n (map shown_item (arrivals k (entry_by d w ∷ past) q c))) (sym same_gone))
         (rw same_gone g.bound)
 
 -- an entry that is of no matter to what is taken leaves it
@@ -115,7 +114,7 @@ keep k past d w q c same_taken same_queue same_starts same_gone (Busy b holding 
     Busy b ((λ e. holding.0.0 (sym (same_taken b) ∙ e), same_queue b ∙ holding.0.1), holding.1)
     (λ e h. only e ((λ is. h.0.0 (same_taken e ∙ is), sym (same_queue e) ∙ h.0.1), h.1))
     (ap (λ xs. xs ++ map shown_item (taken k (entry_by d w ∷ past) b)) same_starts ∙ ap (λ xs. starts k past q c ++ map shown_item xs) (same_taken b)
-      ∙ track ∙ sym g.front ∙ ap (λ n. take n (map shown_item (arrivals k (entry_by d w ∷ past) q c))) (sym same_gone))
+    ∙ track ∙ sym g.front ∙ ap (λ n. take n (map shown_item (arrivals k (entry_by d w ∷ past) q c))) (sym same_gone))
     (rw same_gone g.bound)
 
 -- after an entry of the only core that has something of the list
@@ -186,7 +185,7 @@ take-track : (starts L : List Shown) (arr : List Item) (gone n : ℕ) → L ≡ 
     → starts ++ map shown_item (take n (drop gone arr)) ≡ take (gone + n) L
 take-track starts L arr gone n is track =
     let later : map shown_item (take n (drop gone arr)) ≡ take n (drop gone L) =
-        sym (take-map shown_item n (drop gone arr)) ∙ ap (take n) (sym (drop-map shown_item gone arr) ∙ ap (drop gone) (sym is)) in
+    sym (take-map shown_item n (drop gone arr)) ∙ ap (take n) (sym (drop-map shown_item gone arr) ∙ ap (drop gone) (sym is)) in
     ap (λ xs. xs ++ map shown_item (take n (drop gone arr))) track ∙ ap (λ xs. take gone L ++ xs) later ∙ sym (take-add gone n L)
 
 tracked-take : (k : Declarations) (l : Limits) (past : Past) (d : ℕ) (r : QueueId) (n : ℕ) (t : Option ℕ) (q c : ℕ) → AllAllowed k l past → Allowed k l past (entry_by d (What.Take r n t))
@@ -214,7 +213,7 @@ tracked-take k l past d r n t q c all allowed m was = by_list (is_for k q c r.0 
         let taken_now : taken k now d ≡ take n (drop (gone k past q c) (arrivals k past q c)) = if-own d _ _ ∙ ap (take n) waits in
         now-by k past d (What.Take r n t) q c (λ e h. absurd (none e h)) (if-own d _ _ ∙ ap (λ (i : ℕ). Some i) same) mine
         (ap (λ xs. starts k past q c ++ map shown_item xs) taken_now ∙ take-track (starts k past q c) (map shown_item (arrivals k past q c)) (arrivals k past q c) (gone k past q c) n refl track
-          ∙ sym f.front ∙ ap (λ i. take i (map shown_item (arrivals k now q c))) (sym gone_now))
+        ∙ sym f.front ∙ ap (λ i. take i (map shown_item (arrivals k now q c))) (sym gone_now))
         (rw gone_now f.bound)
 
     by_list : (b : Bool) → is_for k q c r.0 d ≡ b → Tracked k now q c
@@ -260,8 +259,8 @@ tracked-start k l past d r ev s q c m was = by_list (is_for k q c r.0 d) refl
         let taken_now : taken k now d ≡ m.rest = if-own d _ _ ∙ ap (λ xs. drop 1 xs) m.taken in
         now-by k past d (What.Start r ev s) q c (only-me k past q c d holding was) (if-own d _ _ ∙ m.queue ∙ ap (λ (i : ℕ). Some i) same) mine
         (ap (λ xs. xs ++ map shown_item (taken k now d)) starts_now ∙ ap (λ xs. (starts k past q c ++ shown_item m.item ∷ []) ++ map shown_item xs) taken_now
-          ∙ append_assoc (starts k past q c) (shown_item m.item ∷ []) (map shown_item m.rest)
-          ∙ ap (λ xs. starts k past q c ++ map shown_item xs) (sym m.taken) ∙ h.track ∙ sym f.front)
+        ∙ append_assoc (starts k past q c) (shown_item m.item ∷ []) (map shown_item m.rest)
+        ∙ ap (λ xs. starts k past q c ++ map shown_item xs) (sym m.taken) ∙ h.track ∙ sym f.front)
         f.bound
 
 -- giving back all that is taken of a list
@@ -275,11 +274,11 @@ given-back k past d w q c n holding size same_starts gone_now none same_queue wa
     let fits : gone k past q c ≤ length (map shown_item (arrivals k past q c)) = rw length-map h.bound in
     let size2 : n ≡ length (map shown_item (taken k past d)) = size ∙ sym (length-map (taken k past d) shown_item) in
     let left : starts k past q c ++ [] ≡ take (gone k past q c - n) (map shown_item (arrivals k past q c)) =
-        without-last (starts k past q c) (map shown_item (taken k past d)) (map shown_item (arrivals k past q c)) (gone k past q c) h.track fits
-        ∙ ap (λ i. take (gone k past q c - i) (map shown_item (arrivals k past q c))) (sym size2) in
+    without-last (starts k past q c) (map shown_item (taken k past d)) (map shown_item (arrivals k past q c)) (gone k past q c) h.track fits
+    ∙ ap (λ i. take (gone k past q c - i) (map shown_item (arrivals k past q c))) (sym size2) in
     now-by k past d w q c (only-me k past q c d holding was) (same_queue ∙ holding.0.1) holding.1
     (ap (λ xs. starts k (entry_by d w ∷ past) q c ++ map shown_item xs) none ∙ ap (λ xs. xs ++ []) same_starts ∙ left
-      ∙ sym f.front ∙ ap (λ i. take i (map shown_item (arrivals k (entry_by d w ∷ past) q c))) (sym gone_now))
+    ∙ sym f.front ∙ ap (λ i. take i (map shown_item (arrivals k (entry_by d w ∷ past) q c))) (sym gone_now))
     (rw gone_now f.bound)
 
 tracked-untake : (k : Declarations) (l : Limits) (past : Past) (d : ℕ) (r : QueueId) (n : ℕ) (q c : ℕ)
@@ -355,7 +354,7 @@ next-tracked k l past d (What.Dequeue r None) q c served all allowed m was =
     keep k past d (What.Dequeue r None) q c (λ e. if-same (d == e) _) (λ e. if-same (d == e) _) refl refl was
 next-tracked k l past d (What.Dequeue r (Some v)) q c served all allowed m was =
     let other : is_for k q c r.0 d ≡ false = not-true _ (λ own.
-        unscheduled-not_served (kind_of k r.0) m.unscheduled (ap (λ (i : ℕ). is_served (kind_of k i)) (for-queue k q c r.0 d own) ∙ served)) in
+    unscheduled-not_served (kind_of k r.0) m.unscheduled (ap (λ (i : ℕ). is_served (kind_of k i)) (for-queue k q c r.0 d own) ∙ served)) in
     keep k past d (What.Dequeue r (Some v)) q c (λ e. if-same (d == e) _) (λ e. if-same (d == e) _) refl (rw other refl) was
 next-tracked k l past d w q c served all allowed m was = keep k past d w q c (λ e. if-same (d == e) _) (λ e. if-same (d == e) _) refl refl was
 
@@ -388,8 +387,8 @@ next-unstarted : (k : Declarations) (l : Limits) (past : Past) (d : ℕ) (w : Wh
     → starts k past q c ≡ [] → starts k (entry_by d w ∷ past) q c ≡ []
 next-unstarted k l past d (What.Start r ev s) q c unserved all m none =
     let other : is_for k q c r.0 d ≡ false = not-true _ (λ own.
-        let served : is_served (kind_of k r.0) ≡ true = take-served k l past all d r.0 m.queue in
-        absurd (cc (served, unserved, ap (λ (i : ℕ). is_served (kind_of k i)) (for-queue k q c r.0 d own)))) in
+    let served : is_served (kind_of k r.0) ≡ true = take-served k l past all d r.0 m.queue in
+    absurd (cc (served, unserved, ap (λ (i : ℕ). is_served (kind_of k i)) (for-queue k q c r.0 d own)))) in
     rw other none
 next-unstarted k l past d w q c unserved all m none = none
 

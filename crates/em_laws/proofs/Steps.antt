@@ -1,6 +1,5 @@
 -- What stands while a core runs the context of an operation's step.
-use Rattle.std.proofs.Common.{◌≡◌, ◌≢◌, ◌⊎◌, inl, inr, ℕ, zero, suc, ◌+◌, ◌<◌, ◌≤◌, ◌==◌, Bool, true, false, not, List, [], ◌∷◌, Option, Some, None, refl, sym, ◌∙◌, subst, ap, if◌then◌else◌, arith}
-use Rattle.std.proofs.lemmas.Bool.{eq-eqb}
+use Rattle.std.proofs.Common.{◌≡◌, ◌≢◌, ℕ, ◌==◌, Bool, true, false, List, [], ◌∷◌, Option, Some, None, refl, sym, ◌∙◌, subst, ap, if◌then◌else◌}
 use Rattle.em_log.specs.declared.declarations.Declarations.{Declarations}
 use Rattle.em_log.specs.declared.entry.Entry.{Entry}
 use Rattle.em_log.specs.declared.entry.What.{What}
@@ -12,15 +11,14 @@ use Rattle.em_log.specs.declared.ids.Cells.{Cells}
 use Rattle.em_log.specs.declared.ids.Limits.{Limits}
 use Rattle.em_log.specs.History.{Past, entry_by, has}
 use Rattle.em_log.specs.Contexts.{context, context_after}
-use Rattle.em_log.specs.Operations.{Operation, operation, operations, global_done, global_done_by, acked, acked_by, all_acked, last_acker, op_id}
+use Rattle.em_log.specs.Operations.{Operation, operation, global_done, acked, all_acked, last_acker, op_id}
 use Rattle.em_log.specs.Places.{taken, taken_after}
 use Rattle.em_log.specs.Lawful.{AllAllowed}
 use Rattle.em_log.specs.Laws.{Always}
-use Rattle.em_log.proofs.Choices.{IsBetween}
 use Rattle.em_log.proofs.Steps.{Owes, OwesAck, OwesGlobalStart, OwesLocalStart, OwesLocalStop, OwesGlobalStop}
-use Rattle.em_log.proofs.Moments.{Moment, EnterMoment, EntersBoot, EntersStep, AckMoment, AckChange, AckStart, AckStop, GlobalDoneMoment, GlobalStartDone, GlobalStopDone, BeginMoment, allowed-moment}
+use Rattle.em_log.proofs.Moments.{Moment, EnterMoment, EntersBoot, EntersStep, AckMoment, AckChange, AckStart, AckStop, GlobalDoneMoment, GlobalStartDone, GlobalStopDone, allowed-moment}
 use Rattle.em_laws.proofs.Cores.{Compared, Same, Other, compared, if-own, none-some, some-inj}
-use Rattle.em_laws.proofs.Acks.{AckedAfter, AckedBefore, AcksNow, acked-after, has-cons, acked-more, all-acked-has, all-acked-more, last-kept, last-all}
+use Rattle.em_laws.proofs.Acks.{AckedAfter, AckedBefore, AcksNow, acked-after, all-acked-more, last-kept, last-all}
 use Rattle.em_laws.proofs.Begun.{begun-kept}
 
 -- what stands of an operation while core c is in a context of it
@@ -246,11 +244,13 @@ pub contexts : (k : Declarations) (l : Limits) (past : Past) → AllAllowed k l 
 contexts k l [] all = record { steps = λ c b h. absurd (none-some _ h); untaken = λ c b h. refl }
 contexts k l (e ∷ past) all =
     let held = contexts k l past all.1 in
-    let m = allowed-moment k l past e all.1 all.0 in
-    (record {
-      steps = next-steps k l past e.core.0 e.what all.1 held m;
-      untaken = next-untaken k l past e.core.0 e.what (always-here (Contexts k) past held) m;
-    }, held)
+    let m = allowed-moment k l past e all.1 all.0 in (
+      record {
+        steps = next-steps k l past e.core.0 e.what all.1 held m;
+        untaken = next-untaken k l past e.core.0 e.what (always-here (Contexts k) past held) m;
+      },
+      held,
+    )
 
 -- an acknowledgement is of an operation that has begun
 

@@ -1,12 +1,10 @@
 -- How many leading tickets have ended never falls, and what was sent under a ticket.
-use Rattle.std.proofs.Common.{◌≡◌, ◌≢◌, ◌⊎◌, inl, inr, ℕ, zero, suc, ◌+◌, ◌-◌, ◌≤◌, ◌<◌, ◌==◌, Bool, true, false, ◌&&◌, ◌||◌, List, [], ◌∷◌, ◌++◌, Option, Some, None, refl, sym, ◌∙◌, subst, ap, if◌then◌else◌, arith}
+use Rattle.std.proofs.Common.{◌≡◌, ◌≢◌, ◌⊎◌, inl, inr, ℕ, zero, suc, ◌+◌, ◌-◌, ◌≤◌, ◌<◌, ◌==◌, Bool, true, false, List, [], ◌∷◌, ◌++◌, Option, Some, None, refl, sym, ◌∙◌, subst, ap, if◌then◌else◌, arith}
 use Rattle.std.specs.Prelude.{nat_le}
-use Rattle.std.specs.List.{flat_map}
 use Rattle.std.specs.Option.{option_map}
 use Rattle.std.proofs.lemmas.Bool.{eq-eqb}
 use Rattle.std.proofs.lemmas.Bool.Decides.{leb_tells}
 use Rattle.em_log.specs.declared.declarations.Declarations.{Declarations}
-use Rattle.em_log.specs.declared.entry.Entry.{Entry}
 use Rattle.em_log.specs.declared.entry.What.{What}
 use Rattle.em_log.specs.declared.ids.Stamp.{Stamp}
 use Rattle.em_log.specs.declared.ids.Handle.{Handle}
@@ -16,13 +14,12 @@ use Rattle.em_log.specs.History.{Past, entry_by, has}
 use Rattle.em_log.specs.Declarations.{kind_of, is_ordered, numbers_from}
 use Rattle.em_log.specs.Handles.{Spending, spending, rule}
 use Rattle.em_log.specs.Order.{Ticket, Sent, takes_after, takes, ticket_after, open_ticket, with_number, ended_after, ended, run_from, released, ticket_of_send, enters, is_ticket, sends_after, sends_under, sends_under_all, let_in}
-use Rattle.em_log.specs.Eligible.{ticket_drawn}
 use Rattle.em_log.specs.Lawful.{AllAllowed}
-use Rattle.em_log.proofs.Moments.{Moment, TakeMoment, SendMoment, allowed-moment}
-use Rattle.em_laws.proofs.Cores.{Compared, Same, Other, compared, eqb-eq, if-own, none-some, some-inj}
+use Rattle.em_log.proofs.Moments.{Moment, SendMoment, allowed-moment}
+use Rattle.em_laws.proofs.Cores.{Compared, Same, Other, compared, none-some, some-inj}
 use Rattle.em_laws.proofs.Acks.{has-cons}
 use Rattle.em_laws.proofs.Counts.{times, times-append}
-use Rattle.em_laws.proofs.Spent.{IsUsable, usable, spending-kept, spends-now, spends-other}
+use Rattle.em_laws.proofs.Spent.{usable, spending-kept, spends-now, spends-other}
 
 -- released
 
@@ -307,7 +304,7 @@ let-in-gain k l past d w (Some u) h t all is = by_queue (compared t.queue u.queu
         rw on (omega (arith, nothing))
     by_enters same false before true after =
         let once = range-once past h u.queue t.number (suc (released past u.queue)) (released now u.queue - released past u.queue)
-            (λ m ne. zero_at m (λ e f. ne (sym f))) (under k l past all h u.queue t.number).once in
+        (λ m ne. zero_at m (λ e f. ne (sym f))) (under k l past all h u.queue t.number).once in
         omega (arith, once)
     by_enters same false before false after =
         let gt = nat-le-false t.number (released now t.queue) after in

@@ -1,7 +1,6 @@
 -- All handles that a history has minted.
 use Rattle.std.specs.Prelude.{ℕ, ◌≤◌, List, [], ◌∷◌, Option, Some, None}
 use Rattle.em_log.specs.declared.declarations.Declarations.{Declarations}
-use Rattle.em_log.specs.declared.entry.Entry.{Entry}
 use Rattle.em_log.specs.declared.entry.Event.{Event}
 use Rattle.em_log.specs.Declarations.{event_total}
 use Rattle.em_log.specs.History.{Past, minted_in}

@@ -4,3 +4,4 @@ pub mod Choices
 pub mod Follows
 pub mod Inversion
 pub mod Moments
+pub mod Blocks
