@@ -23,17 +23,19 @@ abbrev pub MomentOfNewest : Declarations → Limits → Past → Type 0
 MomentOfNewest k l [] = Unit {0}
 MomentOfNewest k l (e ∷ past) = Moment k l past e.core.0 e.what
 
-pub next-behind : (k : Declarations) (l : Limits) (n : ℕ) (past : Past) → AllAllowed k l past → NextOfNewest k l (drop n past)
-next-behind k l zero [] all = tt
-next-behind k l zero (e ∷ past) all = all.0.next
-next-behind k l (suc n) [] all = tt
-next-behind k l (suc n) (e ∷ past) all = next-behind k l n past all.1
+pub next-of-newest : (k : Declarations) (l : Limits) (past : Past) → AllAllowed k l past → NextOfNewest k l past
+next-of-newest k l [] all = tt
+next-of-newest k l (e ∷ past) all = all.0.next
 
-pub moment-behind : (k : Declarations) (l : Limits) (n : ℕ) (past : Past) → AllAllowed k l past → MomentOfNewest k l (drop n past)
-moment-behind k l zero [] all = tt
-moment-behind k l zero (e ∷ past) all = allowed-moment k l past e all.1 all.0
-moment-behind k l (suc n) [] all = tt
-moment-behind k l (suc n) (e ∷ past) all = moment-behind k l n past all.1
+pub moment-of-newest : (k : Declarations) (l : Limits) (past : Past) → AllAllowed k l past → MomentOfNewest k l past
+moment-of-newest k l [] all = tt
+moment-of-newest k l (e ∷ past) all = allowed-moment k l past e all.1 all.0
+
+-- the entries behind the n newest were allowed too
+pub all-behind : (k : Declarations) (l : Limits) (n : ℕ) (past : Past) → AllAllowed k l past → AllAllowed k l (drop n past)
+all-behind k l zero past all = all
+all-behind k l (suc n) [] all = tt
+all-behind k l (suc n) (e ∷ past) all = all-behind k l n past all.1
 
 -- what cannot be
 
@@ -92,7 +94,7 @@ no-acknowledgement k past c op began opened other (AckStop _ _ _ e _) = false-tr
 pub nothing-due : {e : Entry} {es : List Entry} → e ∷ es ≡ [] → ⊥
 nothing-due same = grind (arith, same)
 
--- what tells two entries apart
+-- what entries show, to tell them apart
 
 abbrev kind_of_out : What → ℕ
 kind_of_out (What.Out q kind words) = kind
@@ -104,6 +106,10 @@ handle_of_start w = 0
 
 abbrev pub kind_shown : Entry → ℕ
 kind_shown e = kind_of_out e.what
+
+abbrev pub value_said : What → ℕ
+value_said (What.Say v) = v
+value_said w = 0
 
 abbrev pub handle_shown : Entry → ℕ
 handle_shown e = handle_of_start e.what

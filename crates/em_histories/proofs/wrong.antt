@@ -15,3 +15,7 @@ pub mod MoreReceivesThanTheLimit
 pub mod NotifiedTwice
 pub mod AbortedApplicationNotifies
 pub mod ReceivedAgainAfterGivingBack
+pub mod AnotherValueSaid
+pub mod BodyCutShort
+pub mod ErrorBodySkipped
+pub mod GlobalErrorBodyInPlaceOfTheObjects

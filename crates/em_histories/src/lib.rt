@@ -2,7 +2,7 @@
 //! contracts say so.
 #![tactic(auto)]
 
-ghost use Rattle.em_histories.specs.Ends.{IsLegalUntilQuiet, IsLegalUntilLimit, IsUnlawful};
+ghost use Rattle.em_histories.specs.Runs.{IsLegalUntilQuiet, IsLegalUntilLimit, IsWrongAt, IsUnfinished, IsUnfaithful};
 ghost use Rattle.em_histories.specs.worked.OneEvent as one_event;
 ghost use Rattle.em_histories.specs.worked.OneEventAtTheLimit as one_event_at_the_limit;
 ghost use Rattle.em_histories.specs.worked.OnlyBoot as only_boot;
@@ -80,95 +80,107 @@ ghost use Rattle.em_histories.specs.wrong.MoreReceivesThanTheLimit as more_recei
 ghost use Rattle.em_histories.specs.wrong.NotifiedTwice as notified_twice;
 ghost use Rattle.em_histories.specs.wrong.AbortedApplicationNotifies as aborted_application_notifies;
 ghost use Rattle.em_histories.specs.wrong.ReceivedAgainAfterGivingBack as received_again_after_giving_back;
+ghost use Rattle.em_histories.specs.wrong.AnotherValueSaid as another_value_said;
+ghost use Rattle.em_histories.specs.wrong.BodyCutShort as body_cut_short;
+ghost use Rattle.em_histories.specs.wrong.ErrorBodySkipped as error_body_skipped;
+ghost use Rattle.em_histories.specs.wrong.GlobalErrorBodyInPlaceOfTheObjects as global_error_body_in_place_of_the_objects;
 
 /// Each of these histories is legal, and ends as its subject wants: with nothing left to do, or at the limit on
 /// receives.
 pub fn worked_histories()
-    ensures one_event { IsLegalUntilQuiet one_event.graph one_event.limits one_event.history }
-    ensures one_event_at_the_limit { IsLegalUntilQuiet one_event_at_the_limit.graph one_event_at_the_limit.limits one_event_at_the_limit.history }
-    ensures only_boot { IsLegalUntilQuiet only_boot.graph only_boot.limits only_boot.history }
-    ensures limit_of_three { IsLegalUntilLimit limit_of_three.graph limit_of_three.limits limit_of_three.history }
-    ensures sent_twice { IsLegalUntilQuiet sent_twice.graph sent_twice.limits sent_twice.history }
-    ensures freed_twice { IsLegalUntilQuiet freed_twice.graph freed_twice.limits freed_twice.history }
-    ensures pool_empty { IsLegalUntilQuiet pool_empty.graph pool_empty.limits pool_empty.history }
-    ensures keep_and_claim { IsLegalUntilQuiet keep_and_claim.graph keep_and_claim.limits keep_and_claim.history }
-    ensures every_refusal_of_boot { IsLegalUntilQuiet every_refusal_of_boot.graph every_refusal_of_boot.limits every_refusal_of_boot.history }
-    ensures two_priorities_in_one_atomic_group { IsLegalUntilQuiet two_priorities_in_one_atomic_group.graph two_priorities_in_one_atomic_group.limits two_priorities_in_one_atomic_group.history }
-    ensures early_end_of_atomic_processing { IsLegalUntilQuiet early_end_of_atomic_processing.graph early_end_of_atomic_processing.limits early_end_of_atomic_processing.history }
-    ensures unscheduled_output_and_cells { IsLegalUntilQuiet unscheduled_output_and_cells.graph unscheduled_output_and_cells.limits unscheduled_output_and_cells.history }
-    ensures three_ordered_contexts_end_out_of_order { IsLegalUntilQuiet three_ordered_contexts_end_out_of_order.graph three_ordered_contexts_end_out_of_order.limits three_ordered_contexts_end_out_of_order.history }
-    ensures early_end_of_ordered_processing { IsLegalUntilQuiet early_end_of_ordered_processing.graph early_end_of_ordered_processing.limits early_end_of_ordered_processing.history }
-    ensures ordered_ended_twice { IsLegalUntilQuiet ordered_ended_twice.graph ordered_ended_twice.limits ordered_ended_twice.history }
-    ensures queue_group_changed_while_a_receive_runs { IsLegalUntilQuiet queue_group_changed_while_a_receive_runs.graph queue_group_changed_while_a_receive_runs.limits queue_group_changed_while_a_receive_runs.history }
-    ensures changes_refused { IsLegalUntilQuiet changes_refused.graph changes_refused.limits changes_refused.history }
-    ensures object_stopped_while_a_receive_runs { IsLegalUntilQuiet object_stopped_while_a_receive_runs.graph object_stopped_while_a_receive_runs.limits object_stopped_while_a_receive_runs.history }
-    ensures object_stopped_by_its_own_event_and_started_again { IsLegalUntilQuiet object_stopped_by_its_own_event_and_started_again.graph object_stopped_by_its_own_event_and_started_again.limits object_stopped_by_its_own_event_and_started_again.history }
-    ensures start_that_fails { IsLegalUntilQuiet start_that_fails.graph start_that_fails.limits start_that_fails.history }
-    ensures stop_whose_note_is_lost { IsLegalUntilQuiet stop_whose_note_is_lost.graph stop_whose_note_is_lost.limits stop_whose_note_is_lost.history }
-    ensures group_counts_and_notifies { IsLegalUntilQuiet group_counts_and_notifies.graph group_counts_and_notifies.limits group_counts_and_notifies.history }
-    ensures application_aborted { IsLegalUntilQuiet application_aborted.graph application_aborted.limits application_aborted.history }
-    ensures error_bodies_of_both_scopes { IsLegalUntilQuiet error_bodies_of_both_scopes.graph error_bodies_of_both_scopes.limits error_bodies_of_both_scopes.history }
-    ensures local_queue_keep_claim_dequeue { IsLegalUntilQuiet local_queue_keep_claim_dequeue.graph local_queue_keep_claim_dequeue.limits local_queue_keep_claim_dequeue.history }
-    ensures queue_disabled_and_enabled { IsLegalUntilQuiet queue_disabled_and_enabled.graph queue_disabled_and_enabled.limits queue_disabled_and_enabled.history }
-    ensures handle_held_by_another_core { IsLegalUntilQuiet handle_held_by_another_core.graph handle_held_by_another_core.limits handle_held_by_another_core.history }
-    ensures burst_of_two { IsLegalUntilQuiet burst_of_two.graph burst_of_two.limits burst_of_two.history }
-    ensures burst_given_back_for_a_change { IsLegalUntilQuiet burst_given_back_for_a_change.graph burst_given_back_for_a_change.limits burst_given_back_for_a_change.history }
+    ensures one_event { IsLegalUntilQuiet one_event.run }
+    ensures one_event_at_the_limit { IsLegalUntilQuiet one_event_at_the_limit.run }
+    ensures only_boot { IsLegalUntilQuiet only_boot.run }
+    ensures limit_of_three { IsLegalUntilLimit limit_of_three.run }
+    ensures sent_twice { IsLegalUntilQuiet sent_twice.run }
+    ensures freed_twice { IsLegalUntilQuiet freed_twice.run }
+    ensures pool_empty { IsLegalUntilQuiet pool_empty.run }
+    ensures keep_and_claim { IsLegalUntilQuiet keep_and_claim.run }
+    ensures every_refusal_of_boot { IsLegalUntilQuiet every_refusal_of_boot.run }
+    ensures two_priorities_in_one_atomic_group { IsLegalUntilQuiet two_priorities_in_one_atomic_group.run }
+    ensures early_end_of_atomic_processing { IsLegalUntilQuiet early_end_of_atomic_processing.run }
+    ensures unscheduled_output_and_cells { IsLegalUntilQuiet unscheduled_output_and_cells.run }
+    ensures three_ordered_contexts_end_out_of_order { IsLegalUntilQuiet three_ordered_contexts_end_out_of_order.run }
+    ensures early_end_of_ordered_processing { IsLegalUntilQuiet early_end_of_ordered_processing.run }
+    ensures ordered_ended_twice { IsLegalUntilQuiet ordered_ended_twice.run }
+    ensures queue_group_changed_while_a_receive_runs { IsLegalUntilQuiet queue_group_changed_while_a_receive_runs.run }
+    ensures changes_refused { IsLegalUntilQuiet changes_refused.run }
+    ensures object_stopped_while_a_receive_runs { IsLegalUntilQuiet object_stopped_while_a_receive_runs.run }
+    ensures object_stopped_by_its_own_event_and_started_again { IsLegalUntilQuiet object_stopped_by_its_own_event_and_started_again.run }
+    ensures start_that_fails { IsLegalUntilQuiet start_that_fails.run }
+    ensures stop_whose_note_is_lost { IsLegalUntilQuiet stop_whose_note_is_lost.run }
+    ensures group_counts_and_notifies { IsLegalUntilQuiet group_counts_and_notifies.run }
+    ensures application_aborted { IsLegalUntilQuiet application_aborted.run }
+    ensures error_bodies_of_both_scopes { IsLegalUntilQuiet error_bodies_of_both_scopes.run }
+    ensures local_queue_keep_claim_dequeue { IsLegalUntilQuiet local_queue_keep_claim_dequeue.run }
+    ensures queue_disabled_and_enabled { IsLegalUntilQuiet queue_disabled_and_enabled.run }
+    ensures handle_held_by_another_core { IsLegalUntilQuiet handle_held_by_another_core.run }
+    ensures burst_of_two { IsLegalUntilQuiet burst_of_two.run }
+    ensures burst_given_back_for_a_change { IsLegalUntilQuiet burst_given_back_for_a_change.run }
 {}
 
 /// So is each of these, which are longer, and together have every kind of entry and of context, every fault but that of
 /// too many operations, and more than one object, queue, pool, queue group and event group.
 pub fn further_histories()
-    ensures bursts_untaken_and_cells_of_two_contexts { IsLegalUntilQuiet bursts_untaken_and_cells_of_two_contexts.graph bursts_untaken_and_cells_of_two_contexts.limits bursts_untaken_and_cells_of_two_contexts.history }
-    ensures closed_queues_open_again { IsLegalUntilQuiet closed_queues_open_again.graph closed_queues_open_again.limits closed_queues_open_again.history }
-    ensures error_bodies_everywhere { IsLegalUntilQuiet error_bodies_everywhere.graph error_bodies_everywhere.limits error_bodies_everywhere.history }
-    ensures error_bodies_of_operations { IsLegalUntilQuiet error_bodies_of_operations.graph error_bodies_of_operations.limits error_bodies_of_operations.history }
-    ensures event_groups_aborted_and_incremented { IsLegalUntilQuiet event_groups_aborted_and_incremented.graph event_groups_aborted_and_incremented.limits event_groups_aborted_and_incremented.history }
-    ensures events_lost_at_ends_of_all_contexts { IsLegalUntilQuiet events_lost_at_ends_of_all_contexts.graph events_lost_at_ends_of_all_contexts.limits events_lost_at_ends_of_all_contexts.history }
-    ensures every_fault_of_a_handle { IsLegalUntilQuiet every_fault_of_a_handle.graph every_fault_of_a_handle.limits every_fault_of_a_handle.history }
-    ensures every_wrong_kind { IsLegalUntilQuiet every_wrong_kind.graph every_wrong_kind.limits every_wrong_kind.history }
-    ensures expressions { IsLegalUntilQuiet expressions.graph expressions.limits expressions.history }
-    ensures failed_start_and_then_a_good_one { IsLegalUntilQuiet failed_start_and_then_a_good_one.graph failed_start_and_then_a_good_one.limits failed_start_and_then_a_good_one.history }
-    ensures failed_start_of_the_second_object { IsLegalUntilQuiet failed_start_of_the_second_object.graph failed_start_of_the_second_object.limits failed_start_of_the_second_object.history }
-    ensures handles_lost_by_an_end { IsLegalUntilQuiet handles_lost_by_an_end.graph handles_lost_by_an_end.limits handles_lost_by_an_end.history }
-    ensures held_send_of_an_index_that_went_there_before { IsLegalUntilQuiet held_send_of_an_index_that_went_there_before.graph held_send_of_an_index_that_went_there_before.limits held_send_of_an_index_that_went_there_before.history }
-    ensures held_sends_into_closed_queues_and_groups { IsLegalUntilQuiet held_sends_into_closed_queues_and_groups.graph held_sends_into_closed_queues_and_groups.limits held_sends_into_closed_queues_and_groups.history }
-    ensures held_sends_of_two_ordered_queues { IsLegalUntilQuiet held_sends_of_two_ordered_queues.graph held_sends_of_two_ordered_queues.limits held_sends_of_two_ordered_queues.history }
-    ensures kept_events_of_two_objects { IsLegalUntilQuiet kept_events_of_two_objects.graph kept_events_of_two_objects.limits kept_events_of_two_objects.history }
-    ensures limit_reached_in_a_burst { IsLegalUntilLimit limit_reached_in_a_burst.graph limit_reached_in_a_burst.limits limit_reached_in_a_burst.history }
-    ensures local_queues_of_two_cores { IsLegalUntilLimit local_queues_of_two_cores.graph local_queues_of_two_cores.limits local_queues_of_two_cores.history }
-    ensures members_of_an_aborted_application { IsLegalUntilQuiet members_of_an_aborted_application.graph members_of_an_aborted_application.limits members_of_an_aborted_application.history }
-    ensures mixed_failed_start_stamped_local_and_atomic { IsLegalUntilQuiet mixed_failed_start_stamped_local_and_atomic.graph mixed_failed_start_stamped_local_and_atomic.limits mixed_failed_start_stamped_local_and_atomic.history }
-    ensures mixed_start_stop_and_lost_notes_with_bursts { IsLegalUntilQuiet mixed_start_stop_and_lost_notes_with_bursts.graph mixed_start_stop_and_lost_notes_with_bursts.limits mixed_start_stop_and_lost_notes_with_bursts.history }
-    ensures mixed_with_bursts_given_back { IsLegalUntilQuiet mixed_with_bursts_given_back.graph mixed_with_bursts_given_back.limits mixed_with_bursts_given_back.history }
-    ensures modify_of_two_groups { IsLegalUntilLimit modify_of_two_groups.graph modify_of_two_groups.limits modify_of_two_groups.history }
-    ensures notes_lost_at_a_notify { IsLegalUntilQuiet notes_lost_at_a_notify.graph notes_lost_at_a_notify.limits notes_lost_at_a_notify.history }
-    ensures pools_and_generations { IsLegalUntilQuiet pools_and_generations.graph pools_and_generations.limits pools_and_generations.history }
-    ensures priorities_of_five_queues { IsLegalUntilQuiet priorities_of_five_queues.graph priorities_of_five_queues.limits priorities_of_five_queues.history }
-    ensures queues_passed_over_while_a_mask_grows { IsLegalUntilQuiet queues_passed_over_while_a_mask_grows.graph queues_passed_over_while_a_mask_grows.limits queues_passed_over_while_a_mask_grows.history }
-    ensures queues_passed_over_while_a_mask_shrinks { IsLegalUntilQuiet queues_passed_over_while_a_mask_shrinks.graph queues_passed_over_while_a_mask_shrinks.limits queues_passed_over_while_a_mask_shrinks.history }
-    ensures released_by_early_and_late_ends { IsLegalUntilLimit released_by_early_and_late_ends.graph released_by_early_and_late_ends.limits released_by_early_and_late_ends.history }
-    ensures steps_of_the_least_operation_first { IsLegalUntilQuiet steps_of_the_least_operation_first.graph steps_of_the_least_operation_first.limits steps_of_the_least_operation_first.history }
-    ensures stop_and_start_of_two_objects_on_three_cores { IsLegalUntilQuiet stop_and_start_of_two_objects_on_three_cores.graph stop_and_start_of_two_objects_on_three_cores.limits stop_and_start_of_two_objects_on_three_cores.history }
+    ensures bursts_untaken_and_cells_of_two_contexts { IsLegalUntilQuiet bursts_untaken_and_cells_of_two_contexts.run }
+    ensures closed_queues_open_again { IsLegalUntilQuiet closed_queues_open_again.run }
+    ensures error_bodies_everywhere { IsLegalUntilQuiet error_bodies_everywhere.run }
+    ensures error_bodies_of_operations { IsLegalUntilQuiet error_bodies_of_operations.run }
+    ensures event_groups_aborted_and_incremented { IsLegalUntilQuiet event_groups_aborted_and_incremented.run }
+    ensures events_lost_at_ends_of_all_contexts { IsLegalUntilQuiet events_lost_at_ends_of_all_contexts.run }
+    ensures every_fault_of_a_handle { IsLegalUntilQuiet every_fault_of_a_handle.run }
+    ensures every_wrong_kind { IsLegalUntilQuiet every_wrong_kind.run }
+    ensures expressions { IsLegalUntilQuiet expressions.run }
+    ensures failed_start_and_then_a_good_one { IsLegalUntilQuiet failed_start_and_then_a_good_one.run }
+    ensures failed_start_of_the_second_object { IsLegalUntilQuiet failed_start_of_the_second_object.run }
+    ensures handles_lost_by_an_end { IsLegalUntilQuiet handles_lost_by_an_end.run }
+    ensures held_send_of_an_index_that_went_there_before { IsLegalUntilQuiet held_send_of_an_index_that_went_there_before.run }
+    ensures held_sends_into_closed_queues_and_groups { IsLegalUntilQuiet held_sends_into_closed_queues_and_groups.run }
+    ensures held_sends_of_two_ordered_queues { IsLegalUntilQuiet held_sends_of_two_ordered_queues.run }
+    ensures kept_events_of_two_objects { IsLegalUntilQuiet kept_events_of_two_objects.run }
+    ensures limit_reached_in_a_burst { IsLegalUntilLimit limit_reached_in_a_burst.run }
+    ensures local_queues_of_two_cores { IsLegalUntilLimit local_queues_of_two_cores.run }
+    ensures members_of_an_aborted_application { IsLegalUntilQuiet members_of_an_aborted_application.run }
+    ensures mixed_failed_start_stamped_local_and_atomic { IsLegalUntilQuiet mixed_failed_start_stamped_local_and_atomic.run }
+    ensures mixed_start_stop_and_lost_notes_with_bursts { IsLegalUntilQuiet mixed_start_stop_and_lost_notes_with_bursts.run }
+    ensures mixed_with_bursts_given_back { IsLegalUntilQuiet mixed_with_bursts_given_back.run }
+    ensures modify_of_two_groups { IsLegalUntilLimit modify_of_two_groups.run }
+    ensures notes_lost_at_a_notify { IsLegalUntilQuiet notes_lost_at_a_notify.run }
+    ensures pools_and_generations { IsLegalUntilQuiet pools_and_generations.run }
+    ensures priorities_of_five_queues { IsLegalUntilQuiet priorities_of_five_queues.run }
+    ensures queues_passed_over_while_a_mask_grows { IsLegalUntilQuiet queues_passed_over_while_a_mask_grows.run }
+    ensures queues_passed_over_while_a_mask_shrinks { IsLegalUntilQuiet queues_passed_over_while_a_mask_shrinks.run }
+    ensures released_by_early_and_late_ends { IsLegalUntilLimit released_by_early_and_late_ends.run }
+    ensures steps_of_the_least_operation_first { IsLegalUntilQuiet steps_of_the_least_operation_first.run }
+    ensures stop_and_start_of_two_objects_on_three_cores { IsLegalUntilQuiet stop_and_start_of_two_objects_on_three_cores.run }
 {}
 
-/// In each of these histories one entry is wrong, so it is not lawful under the graph and the limits that it is told
-/// of.
+/// Each of these histories is wrong at one place, under the graph and the limits of a history above: the entries
+/// before that place were allowed, and the one there is not. So none of them is lawful.
 pub fn wrong_histories()
-    ensures released_in_the_wrong_order { IsUnlawful three_ordered_contexts_end_out_of_order.graph three_ordered_contexts_end_out_of_order.limits released_in_the_wrong_order.history }
-    ensures released_before_its_ticket_is_the_first { IsUnlawful three_ordered_contexts_end_out_of_order.graph three_ordered_contexts_end_out_of_order.limits released_before_its_ticket_is_the_first.history }
-    ensures held_send_that_never_enters { IsUnlawful early_end_of_ordered_processing.graph early_end_of_ordered_processing.limits held_send_that_never_enters.history }
-    ensures acknowledged_while_a_receive_runs { IsUnlawful queue_group_changed_while_a_receive_runs.graph queue_group_changed_while_a_receive_runs.limits acknowledged_while_a_receive_runs.history }
-    ensures done_before_all_have_acknowledged { IsUnlawful queue_group_changed_while_a_receive_runs.graph queue_group_changed_while_a_receive_runs.limits done_before_all_have_acknowledged.history }
-    ensures mask_in_force_before_all_have_acknowledged { IsUnlawful queue_group_changed_while_a_receive_runs.graph queue_group_changed_while_a_receive_runs.limits mask_in_force_before_all_have_acknowledged.history }
-    ensures local_stop_entered_while_a_receive_runs { IsUnlawful object_stopped_while_a_receive_runs.graph object_stopped_while_a_receive_runs.limits local_stop_entered_while_a_receive_runs.history }
-    ensures stale_handle_freed { IsUnlawful freed_twice.graph freed_twice.limits stale_handle_freed.history }
-    ensures spent_handle_sent { IsUnlawful sent_twice.graph sent_twice.limits spent_handle_sent.history }
-    ensures handle_given_again { IsUnlawful pool_empty.graph pool_empty.limits handle_given_again.history }
-    ensures lower_priority_taken { IsUnlawful two_priorities_in_one_atomic_group.graph two_priorities_in_one_atomic_group.limits lower_priority_taken.history }
-    ensures atomic_group_held_by_two_cores { IsUnlawful two_priorities_in_one_atomic_group.graph two_priorities_in_one_atomic_group.limits atomic_group_held_by_two_cores.history }
-    ensures taken_from_a_disabled_queue { IsUnlawful queue_disabled_and_enabled.graph queue_disabled_and_enabled.limits taken_from_a_disabled_queue.history }
-    ensures more_receives_than_the_limit { IsUnlawful limit_of_three.graph limit_of_three.limits more_receives_than_the_limit.history }
-    ensures notified_twice { IsUnlawful application_aborted.graph application_aborted.limits notified_twice.history }
-    ensures aborted_application_notifies { IsUnlawful application_aborted.graph application_aborted.limits aborted_application_notifies.history }
-    ensures received_again_after_giving_back { IsUnlawful burst_given_back_for_a_change.graph burst_given_back_for_a_change.limits received_again_after_giving_back.history }
+    ensures released_in_the_wrong_order { IsWrongAt 32 released_in_the_wrong_order.run }
+    ensures released_before_its_ticket_is_the_first { IsWrongAt 27 released_before_its_ticket_is_the_first.run }
+    ensures held_send_that_never_enters { IsUnfinished held_send_that_never_enters.run }
+    ensures acknowledged_while_a_receive_runs { IsWrongAt 14 acknowledged_while_a_receive_runs.run }
+    ensures done_before_all_have_acknowledged { IsWrongAt 15 done_before_all_have_acknowledged.run }
+    ensures mask_in_force_before_all_have_acknowledged { IsWrongAt 14 mask_in_force_before_all_have_acknowledged.run }
+    ensures local_stop_entered_while_a_receive_runs { IsWrongAt 14 local_stop_entered_while_a_receive_runs.run }
+    ensures stale_handle_freed { IsWrongAt 4 stale_handle_freed.run }
+    ensures spent_handle_sent { IsWrongAt 3 spent_handle_sent.run }
+    ensures handle_given_again { IsWrongAt 3 handle_given_again.run }
+    ensures lower_priority_taken { IsWrongAt 6 lower_priority_taken.run }
+    ensures atomic_group_held_by_two_cores { IsWrongAt 8 atomic_group_held_by_two_cores.run }
+    ensures taken_from_a_disabled_queue { IsWrongAt 5 taken_from_a_disabled_queue.run }
+    ensures more_receives_than_the_limit { IsWrongAt 16 more_receives_than_the_limit.run }
+    ensures notified_twice { IsWrongAt 21 notified_twice.run }
+    ensures aborted_application_notifies { IsWrongAt 15 aborted_application_notifies.run }
+    ensures received_again_after_giving_back { IsWrongAt 29 received_again_after_giving_back.run }
+{}
+
+/// These are lawful, but in each a context does not follow its body, so they are not legal.
+pub fn unfaithful_histories()
+    ensures another_value_said { IsUnfaithful another_value_said.run }
+    ensures body_cut_short { IsUnfaithful body_cut_short.run }
+    ensures error_body_skipped { IsUnfaithful error_body_skipped.run }
+    ensures global_error_body_in_place_of_the_objects { IsUnfaithful global_error_body_in_place_of_the_objects.run }
 {}

@@ -6,11 +6,11 @@ use Rattle.em_log.specs.Lawful.{AllAllowed}
 use Rattle.em_log.specs.Lawful as next
 use Rattle.em_log.specs.Legal.{FollowsSoFar}
 use Rattle.em_histories.specs.Words.{queue, pool, queue_group, note, cells}
-use Rattle.em_histories.specs.Ends.{IsLegalUntilLimit}
-use Rattle.em_histories.specs.further.ModifyOfTwoGroups.{graph, limits, history}
+use Rattle.em_histories.specs.Runs.{IsLegalUntilLimit}
+use Rattle.em_histories.specs.further.ModifyOfTwoGroups.{run}
 use Rattle.em_histories.proofs.Chain.{◌after◌, allowed, AllFollow, endings, ended-follow}
 
-each : AllAllowed (declarations_of graph) limits (reverse history)
+each : AllAllowed (declarations_of run.graph) run.limits (reverse run.history)
 each =
     allowed tt refl
     after allowed tt (next.Steps refl refl)
@@ -96,7 +96,7 @@ each =
     after allowed tt (next.Boots refl refl refl)
     after tt
 
-ends : AllFollow graph (endings (reverse history))
+ends : AllFollow run.graph (endings (reverse run.history))
 unfolding Rattle.em_log.specs.declared.body.Expr.TheBlock.hidden-the_row-Expr-0 denote.Hole.Carrier.hidden Rattle.em_log.specs.declared.body.Stmt.TheBlock.hidden-the_row-Stmt-0
 ends = (
   record { so_far = record { all = refl; leads = (refl, tt) }; over = (_, refl, refl) },
@@ -127,27 +127,27 @@ ends = (
   ),
 )
 
-begun_0 : FollowsSoFar graph (reverse history) 0
+begun_0 : FollowsSoFar run.graph (reverse run.history) 0
 unfolding Rattle.em_log.specs.declared.body.Expr.TheBlock.hidden-the_row-Expr-0 denote.Hole.Carrier.hidden Rattle.em_log.specs.declared.body.Stmt.TheBlock.hidden-the_row-Stmt-0
 begun_0 = record { all = refl; leads = tt }
 
-begun_1 : FollowsSoFar graph (reverse history) 1
+begun_1 : FollowsSoFar run.graph (reverse run.history) 1
 unfolding Rattle.em_log.specs.declared.body.Expr.TheBlock.hidden-the_row-Expr-0 denote.Hole.Carrier.hidden Rattle.em_log.specs.declared.body.Stmt.TheBlock.hidden-the_row-Stmt-0
 begun_1 = record { all = refl; leads = tt }
 
-begun_2 : FollowsSoFar graph (reverse history) 2
+begun_2 : FollowsSoFar run.graph (reverse run.history) 2
 unfolding Rattle.em_log.specs.declared.body.Expr.TheBlock.hidden-the_row-Expr-0 denote.Hole.Carrier.hidden Rattle.em_log.specs.declared.body.Stmt.TheBlock.hidden-the_row-Stmt-0
 begun_2 = record { all = refl; leads = tt }
 
-begun : (c : ℕ) → c < 3 → FollowsSoFar graph (reverse history) c
+begun : (c : ℕ) → c < 3 → FollowsSoFar run.graph (reverse run.history) c
 begun zero h = begun_0
 begun (suc zero) h = begun_1
 begun (suc (suc zero)) h = begun_2
 begun (suc (suc (suc c))) h = absurd (omega arith)
 
-pub is_legal : IsLegalUntilLimit graph limits history
+pub is_legal : IsLegalUntilLimit run
 is_legal =
     record {
-      legal = record { lawful = record { each = each; whole = refl }; ended = ended-follow graph (reverse history) ends; begun = begun };
+      legal = record { lawful = record { each = each; whole = refl }; ended = ended-follow run.graph (reverse run.history) ends; begun = begun };
       limit = refl;
     }

@@ -6,11 +6,11 @@ use Rattle.em_log.specs.Lawful.{AllAllowed}
 use Rattle.em_log.specs.Lawful as next
 use Rattle.em_log.specs.Legal.{FollowsSoFar}
 use Rattle.em_histories.specs.Words.{queue, pool}
-use Rattle.em_histories.specs.Ends.{IsLegalUntilLimit}
-use Rattle.em_histories.specs.worked.LimitOfThree.{graph, limits, history}
+use Rattle.em_histories.specs.Runs.{IsLegalUntilLimit}
+use Rattle.em_histories.specs.worked.LimitOfThree.{run}
 use Rattle.em_histories.proofs.Chain.{◌after◌, allowed, AllFollow, endings, ended-follow}
 
-each : AllAllowed (declarations_of graph) limits (reverse history)
+each : AllAllowed (declarations_of run.graph) run.limits (reverse run.history)
 each =
     allowed tt (next.Asks (Ask.End None) refl refl)
     after allowed tt (next.Asks (Ask.Send 262144 (queue 0) None) refl refl)
@@ -30,7 +30,7 @@ each =
     after allowed tt (next.Boots refl refl refl)
     after tt
 
-ends : AllFollow graph (endings (reverse history))
+ends : AllFollow run.graph (endings (reverse run.history))
 unfolding Rattle.em_log.specs.declared.body.Expr.TheBlock.hidden-the_row-Expr-0 denote.Hole.Carrier.hidden Rattle.em_log.specs.declared.body.Stmt.TheBlock.hidden-the_row-Stmt-0
 ends = (
   record { so_far = record { all = refl; leads = (refl, tt) }; over = (_, refl, refl) },
@@ -46,17 +46,17 @@ ends = (
   ),
 )
 
-begun_0 : FollowsSoFar graph (reverse history) 0
+begun_0 : FollowsSoFar run.graph (reverse run.history) 0
 unfolding Rattle.em_log.specs.declared.body.Expr.TheBlock.hidden-the_row-Expr-0 denote.Hole.Carrier.hidden Rattle.em_log.specs.declared.body.Stmt.TheBlock.hidden-the_row-Stmt-0
 begun_0 = record { all = refl; leads = tt }
 
-begun : (c : ℕ) → c < 1 → FollowsSoFar graph (reverse history) c
+begun : (c : ℕ) → c < 1 → FollowsSoFar run.graph (reverse run.history) c
 begun zero h = begun_0
 begun (suc c) h = absurd (omega arith)
 
-pub is_legal : IsLegalUntilLimit graph limits history
+pub is_legal : IsLegalUntilLimit run
 is_legal =
     record {
-      legal = record { lawful = record { each = each; whole = refl }; ended = ended-follow graph (reverse history) ends; begun = begun };
+      legal = record { lawful = record { each = each; whole = refl }; ended = ended-follow run.graph (reverse run.history) ends; begun = begun };
       limit = refl;
     }

@@ -6,11 +6,11 @@ use Rattle.em_log.specs.Lawful.{AllAllowed}
 use Rattle.em_log.specs.Lawful as next
 use Rattle.em_log.specs.Legal.{FollowsSoFar}
 use Rattle.em_histories.specs.Words.{queue, pool, cells}
-use Rattle.em_histories.specs.Ends.{IsLegalUntilQuiet}
-use Rattle.em_histories.specs.worked.TwoPrioritiesInOneAtomicGroup.{graph, limits, history}
+use Rattle.em_histories.specs.Runs.{IsLegalUntilQuiet}
+use Rattle.em_histories.specs.worked.TwoPrioritiesInOneAtomicGroup.{run}
 use Rattle.em_histories.proofs.Chain.{◌after◌, allowed, AllFollow, endings, ended-follow}
 
-each : AllAllowed (declarations_of graph) limits (reverse history)
+each : AllAllowed (declarations_of run.graph) run.limits (reverse run.history)
 each =
     allowed tt (next.Asks (Ask.End (Some (cells (0 ∷ 0 ∷ 0 ∷ 0 ∷ 0 ∷ 0 ∷ 0 ∷ 0 ∷ [])))) refl refl)
     after allowed tt (next.Asks (Ask.Free 131072) refl refl)
@@ -30,7 +30,7 @@ each =
     after allowed tt (next.Boots refl refl refl)
     after tt
 
-ends : AllFollow graph (endings (reverse history))
+ends : AllFollow run.graph (endings (reverse run.history))
 unfolding Rattle.em_log.specs.declared.body.Expr.TheBlock.hidden-the_row-Expr-0 denote.Hole.Carrier.hidden Rattle.em_log.specs.declared.body.Stmt.TheBlock.hidden-the_row-Stmt-0
 ends = (
   record { so_far = record { all = refl; leads = (refl, (refl, tt)) }; over = (_, refl, refl) },
@@ -43,22 +43,22 @@ ends = (
   ),
 )
 
-begun_0 : FollowsSoFar graph (reverse history) 0
+begun_0 : FollowsSoFar run.graph (reverse run.history) 0
 unfolding Rattle.em_log.specs.declared.body.Expr.TheBlock.hidden-the_row-Expr-0 denote.Hole.Carrier.hidden Rattle.em_log.specs.declared.body.Stmt.TheBlock.hidden-the_row-Stmt-0
 begun_0 = record { all = refl; leads = tt }
 
-begun_1 : FollowsSoFar graph (reverse history) 1
+begun_1 : FollowsSoFar run.graph (reverse run.history) 1
 unfolding Rattle.em_log.specs.declared.body.Expr.TheBlock.hidden-the_row-Expr-0 denote.Hole.Carrier.hidden Rattle.em_log.specs.declared.body.Stmt.TheBlock.hidden-the_row-Stmt-0
 begun_1 = record { all = refl; leads = tt }
 
-begun : (c : ℕ) → c < 2 → FollowsSoFar graph (reverse history) c
+begun : (c : ℕ) → c < 2 → FollowsSoFar run.graph (reverse run.history) c
 begun zero h = begun_0
 begun (suc zero) h = begun_1
 begun (suc (suc c)) h = absurd (omega arith)
 
-pub is_legal : IsLegalUntilQuiet graph limits history
+pub is_legal : IsLegalUntilQuiet run
 is_legal =
     record {
-      legal = record { lawful = record { each = each; whole = refl }; ended = ended-follow graph (reverse history) ends; begun = begun };
+      legal = record { lawful = record { each = each; whole = refl }; ended = ended-follow run.graph (reverse run.history) ends; begun = begun };
       quiet = refl;
     }

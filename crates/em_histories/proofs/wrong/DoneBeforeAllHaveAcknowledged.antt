@@ -1,9 +1,40 @@
-use Rattle.std.proofs.Common.{reverse, refl}
+use Rattle.std.proofs.Common.{[], ◌∷◌, None, take, reverse, refl}
+use Rattle.em_log.specs.declared.ask.Ask.{Ask}
 use Rattle.em_log.specs.Declarations.{declarations_of}
-use Rattle.em_log.specs.Legal.{IsLawful}
-use Rattle.em_histories.specs.worked.QueueGroupChangedWhileAReceiveRuns.{graph, limits}
-use Rattle.em_histories.specs.wrong.DoneBeforeAllHaveAcknowledged.{history}
-use Rattle.em_histories.proofs.Refusals.{next-behind, nothing-begins}
+use Rattle.em_log.specs.Lawful.{AllAllowed}
+use Rattle.em_log.specs.Lawful as next
+use Rattle.em_histories.specs.Words.{queue, pool, queue_group, note}
+use Rattle.em_histories.specs.Runs.{IsWrongAt}
+use Rattle.em_histories.specs.wrong.DoneBeforeAllHaveAcknowledged.{run}
+use Rattle.em_histories.proofs.Chain.{◌after◌, allowed}
+use Rattle.em_histories.proofs.Refusals.{next-of-newest, nothing-begins, all-behind}
 
-pub is_unlawful : IsLawful (declarations_of graph) limits history → ⊥
-is_unlawful lawful = nothing-begins _ _ _ _ _ refl refl refl (next-behind (declarations_of graph) limits 4 (reverse history) lawful.each)
+before : AllAllowed (declarations_of run.graph) run.limits (reverse (take 15 run.history))
+before =
+    allowed tt (next.Steps refl refl)
+    after allowed tt (next.Asks (Ask.Say 1) refl refl)
+    after allowed tt (next.Asks (Ask.End None) refl refl)
+    after allowed tt (next.Asks (Ask.Say 1) refl refl)
+    after allowed tt (next.Asks (Ask.Modify (queue_group 1) 2 ((note 131073 2) ∷ [])) refl refl)
+    after allowed tt refl
+    after allowed tt (next.Takes 0 refl refl)
+    after allowed tt refl
+    after allowed tt (next.Takes 1 refl refl)
+    after allowed tt (next.Asks (Ask.End None) refl refl)
+    after allowed tt (next.Asks (Ask.Send 65537 (queue 1) None) refl refl)
+    after allowed tt (next.Asks (Ask.Alloc (pool 0) 2 []) refl refl)
+    after allowed tt (next.Asks (Ask.Send 65536 (queue 0) None) refl refl)
+    after allowed tt (next.Asks (Ask.Alloc (pool 0) 1 []) refl refl)
+    after allowed tt (next.Boots refl refl refl)
+    after tt
+
+wrong : AllAllowed (declarations_of run.graph) run.limits (reverse (take 16 run.history)) → ⊥
+wrong all = nothing-begins _ _ _ _ _ refl refl refl (next-of-newest (declarations_of run.graph) run.limits (reverse (take 16 run.history)) all)
+
+pub is_wrong : IsWrongAt 15 run
+is_wrong =
+    record {
+      before = before;
+      wrong = wrong;
+      unlawful = λ lawful. wrong (all-behind (declarations_of run.graph) run.limits 4 (reverse run.history) lawful.each);
+    }

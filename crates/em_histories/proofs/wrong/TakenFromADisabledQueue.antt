@@ -1,9 +1,30 @@
-use Rattle.std.proofs.Common.{reverse}
+use Rattle.std.proofs.Common.{[], None, take, reverse, refl}
+use Rattle.em_log.specs.declared.ask.Ask.{Ask}
 use Rattle.em_log.specs.Declarations.{declarations_of}
-use Rattle.em_log.specs.Legal.{IsLawful}
-use Rattle.em_histories.specs.worked.QueueDisabledAndEnabled.{graph, limits}
-use Rattle.em_histories.specs.wrong.TakenFromADisabledQueue.{history}
-use Rattle.em_histories.proofs.Refusals.{false-true, moment-behind}
+use Rattle.em_log.specs.Lawful.{AllAllowed}
+use Rattle.em_log.specs.Lawful as next
+use Rattle.em_histories.specs.Words.{queue, pool}
+use Rattle.em_histories.specs.Runs.{IsWrongAt}
+use Rattle.em_histories.specs.wrong.TakenFromADisabledQueue.{run}
+use Rattle.em_histories.proofs.Chain.{◌after◌, allowed}
+use Rattle.em_histories.proofs.Refusals.{false-true, moment-of-newest, all-behind}
 
-pub is_unlawful : IsLawful (declarations_of graph) limits history → ⊥
-is_unlawful lawful = false-true (moment-behind (declarations_of graph) limits 3 (reverse history) lawful.each).choice
+before : AllAllowed (declarations_of run.graph) run.limits (reverse (take 5 run.history))
+before =
+    allowed tt (next.Asks (Ask.End None) refl refl)
+    after allowed tt (next.Asks (Ask.Disable (queue 0)) refl refl)
+    after allowed tt (next.Asks (Ask.Send 65536 (queue 0) None) refl refl)
+    after allowed tt (next.Asks (Ask.Alloc (pool 0) 0 []) refl refl)
+    after allowed tt (next.Boots refl refl refl)
+    after tt
+
+wrong : AllAllowed (declarations_of run.graph) run.limits (reverse (take 6 run.history)) → ⊥
+wrong all = false-true (moment-of-newest (declarations_of run.graph) run.limits (reverse (take 6 run.history)) all).choice
+
+pub is_wrong : IsWrongAt 5 run
+is_wrong =
+    record {
+      before = before;
+      wrong = wrong;
+      unlawful = λ lawful. wrong (all-behind (declarations_of run.graph) run.limits 3 (reverse run.history) lawful.each);
+    }

@@ -17,6 +17,7 @@ use Rattle.em_log.specs.declared.body.Stmt.TheVariants as stmt
 use Rattle.em_log.specs.declared.body.Expr.TheVariants as expr
 use Rattle.em_log.specs.Operations.{op_id}
 use Rattle.em_histories.specs.Words.{by, queue, pool, object, queue_group, handle, event, cells, pool_named, queue_group_named, atomic_group_named, nothing_given, object_named, queue_named, queue_in_atomic_group}
+use Rattle.em_histories.specs.Runs.{Run}
 
 abbrev x : EoDecl
 x =
@@ -183,3 +184,6 @@ history =
     ∷ by 0 (What.Free (handle 131081))
     ∷ by 0 (What.End 0 (Some (cells (8 ∷ 0 ∷ 0 ∷ 0 ∷ 0 ∷ 0 ∷ 0 ∷ 0 ∷ []))))
     ∷ []
+
+abbrev pub run : Run
+run = record { graph = graph; limits = limits; history = history }

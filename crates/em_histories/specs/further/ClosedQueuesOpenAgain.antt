@@ -17,6 +17,7 @@ use Rattle.em_log.specs.declared.body.Stmt.TheVariants as stmt
 use Rattle.em_log.specs.declared.body.Expr.TheVariants as expr
 use Rattle.em_log.specs.Operations.{op_id}
 use Rattle.em_histories.specs.Words.{by, queue, pool, object, event_group, handle, event, note, cells, pool_named, nothing_given, object_named, queue_named, local_queue, queue_of_no_object}
+use Rattle.em_histories.specs.Runs.{Run}
 
 abbrev x : EoDecl
 x =
@@ -201,3 +202,6 @@ history =
     ∷ by 1 (What.Enable (queue 3))
     ∷ by 1 (What.End 0 (Some (cells (0 ∷ 0 ∷ 0 ∷ 0 ∷ 0 ∷ 0 ∷ 0 ∷ 0 ∷ []))))
     ∷ []
+
+abbrev pub run : Run
+run = record { graph = graph; limits = limits; history = history }

@@ -17,6 +17,7 @@ use Rattle.em_log.specs.declared.body.Stmt.TheVariants as stmt
 use Rattle.em_log.specs.declared.body.Expr.TheVariants as expr
 use Rattle.em_log.specs.Operations.{op_id}
 use Rattle.em_histories.specs.Words.{by, queue, pool, object, handle, event, cells, pool_named, nothing_given, object_named, queue_named, queue_of_no_object}
+use Rattle.em_histories.specs.Runs.{Run}
 
 abbrev x : EoDecl
 x =
@@ -196,3 +197,6 @@ history =
     ∷ by 0 (What.Free (handle 131073))
     ∷ by 0 (What.End 0 None)
     ∷ []
+
+abbrev pub run : Run
+run = record { graph = graph; limits = limits; history = history }

@@ -16,6 +16,7 @@ use Rattle.em_log.specs.declared.body.Stmt.TheVariants as stmt
 use Rattle.em_log.specs.declared.body.Expr.TheVariants as expr
 use Rattle.em_log.specs.Operations.{op_id}
 use Rattle.em_histories.specs.Words.{by, queue, pool, object, handle, event, note, pool_named, nothing_given, object_named, queue_named, queue_of_no_object}
+use Rattle.em_histories.specs.Runs.{Run}
 
 abbrev x : EoDecl
 x =
@@ -204,3 +205,6 @@ history =
     ∷ by 0 (What.Done (op_id 3) true)
     ∷ by 0 (What.Out (queue 3) 1 [])
     ∷ []
+
+abbrev pub run : Run
+run = record { graph = graph; limits = limits; history = history }

@@ -14,6 +14,7 @@ use Rattle.em_log.specs.declared.body.Stmt.TheVariants as stmt
 use Rattle.em_log.specs.declared.body.Expr.TheVariants as expr
 use Rattle.em_log.specs.Operations.{op_id}
 use Rattle.em_histories.specs.Words.{by, queue, pool, object, handle, event, cells, pool_named, nothing_given, object_named, queue_named}
+use Rattle.em_histories.specs.Runs.{Run}
 
 abbrev x : EoDecl
 x =
@@ -125,3 +126,6 @@ history =
     ∷ by 0 (What.GlobalDone (op_id 1) true)
     ∷ by 0 (What.Done (op_id 1) true)
     ∷ []
+
+abbrev pub run : Run
+run = record { graph = graph; limits = limits; history = history }

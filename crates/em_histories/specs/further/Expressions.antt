@@ -14,6 +14,7 @@ use Rattle.em_log.specs.declared.graph.Config.{Config}
 use Rattle.em_log.specs.declared.body.Stmt.TheVariants as stmt
 use Rattle.em_log.specs.declared.body.Expr.TheVariants as expr
 use Rattle.em_histories.specs.Words.{by, queue, pool, object, handle, event, cells, pool_named, nothing_given, object_named, queue_named, queue_of_no_object}
+use Rattle.em_histories.specs.Runs.{Run}
 
 abbrev w : EoDecl
 w = object_named (codes "w") false
@@ -149,3 +150,6 @@ history =
     ∷ by 0 (What.Say 1)
     ∷ by 0 (What.End 0 (Some (cells (0 ∷ 0 ∷ 18446744073709551615 ∷ 0 ∷ 0 ∷ 0 ∷ 0 ∷ 0 ∷ []))))
     ∷ []
+
+abbrev pub run : Run
+run = record { graph = graph; limits = limits; history = history }

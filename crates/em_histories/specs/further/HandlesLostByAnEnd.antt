@@ -17,6 +17,7 @@ use Rattle.em_log.specs.declared.body.Stmt.TheVariants as stmt
 use Rattle.em_log.specs.declared.body.Expr.TheVariants as expr
 use Rattle.em_log.specs.Operations.{op_id}
 use Rattle.em_histories.specs.Words.{by, queue, pool, object, queue_group, event_group, handle, event, note, pool_named, queue_group_named, nothing_given, object_named, queue_named, queue_of_no_object}
+use Rattle.em_histories.specs.Runs.{Run}
 
 abbrev x : EoDecl
 x = object_named (codes "x") false
@@ -142,3 +143,6 @@ history =
     ∷ by 1 (What.Done (op_id 0) true)
     ∷ by 1 (What.Out (queue 2) 1 [])
     ∷ []
+
+abbrev pub run : Run
+run = record { graph = graph; limits = limits; history = history }

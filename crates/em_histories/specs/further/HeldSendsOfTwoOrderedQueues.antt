@@ -13,6 +13,7 @@ use Rattle.em_log.specs.declared.graph.Config.{Config}
 use Rattle.em_log.specs.declared.body.Stmt.TheVariants as stmt
 use Rattle.em_log.specs.declared.body.Expr.TheVariants as expr
 use Rattle.em_histories.specs.Words.{by, queue, pool, handle, event, pool_named, nothing_given, object_named, queue_named, local_queue, queue_of_no_object}
+use Rattle.em_histories.specs.Runs.{Run}
 
 abbrev w : EoDecl
 w =
@@ -199,3 +200,6 @@ history =
     ∷ by 0 (What.Free (handle 262152))
     ∷ by 0 (What.End 0 None)
     ∷ []
+
+abbrev pub run : Run
+run = record { graph = graph; limits = limits; history = history }

@@ -17,6 +17,7 @@ use Rattle.em_log.specs.declared.body.Stmt.TheVariants as stmt
 use Rattle.em_log.specs.declared.body.Expr.TheVariants as expr
 use Rattle.em_log.specs.Operations.{op_id}
 use Rattle.em_histories.specs.Words.{by, queue, pool, object, queue_group, event_group, handle, event, stamp, note, cells, pool_named, queue_group_named, atomic_group_named, nothing_given, object_named, queue_named, queue_in_atomic_group, local_queue, queue_of_no_object}
+use Rattle.em_histories.specs.Runs.{Run}
 
 abbrev x0 : EoDecl
 x0 =
@@ -287,3 +288,6 @@ history =
     ∷ by 0 (What.GlobalDone (op_id 2) true)
     ∷ by 0 (What.Done (op_id 2) true)
     ∷ []
+
+abbrev pub run : Run
+run = record { graph = graph; limits = limits; history = history }

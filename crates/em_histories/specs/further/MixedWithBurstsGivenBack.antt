@@ -18,6 +18,7 @@ use Rattle.em_log.specs.declared.body.Stmt.TheVariants as stmt
 use Rattle.em_log.specs.declared.body.Expr.TheVariants as expr
 use Rattle.em_log.specs.Operations.{op_id}
 use Rattle.em_histories.specs.Words.{by, queue, pool, object, queue_group, handle, event, note, cells, pool_named, queue_group_named, nothing_given, object_named, queue_named}
+use Rattle.em_histories.specs.Runs.{Run}
 
 abbrev x0 : EoDecl
 x0 =
@@ -233,3 +234,6 @@ history =
     ∷ by 0 (What.Fault Call.Start (Fault.EoState EoState.Running) (Some (object 0)))
     ∷ by 0 (What.End 2 (Some (cells (0 ∷ 0 ∷ 0 ∷ 0 ∷ 0 ∷ 0 ∷ 0 ∷ 0 ∷ []))))
     ∷ []
+
+abbrev pub run : Run
+run = record { graph = graph; limits = limits; history = history }

@@ -17,6 +17,7 @@ use Rattle.em_log.specs.declared.body.Stmt.TheVariants as stmt
 use Rattle.em_log.specs.declared.body.Expr.TheVariants as expr
 use Rattle.em_log.specs.Operations.{op_id}
 use Rattle.em_histories.specs.Words.{by, queue, pool, object, queue_group, handle, event, note, cells, pool_named, queue_group_named, atomic_group_named, nothing_given, object_named, queue_named, queue_in_atomic_group, queue_of_no_object}
+use Rattle.em_histories.specs.Runs.{Run}
 
 abbrev x : EoDecl
 x =
@@ -167,3 +168,6 @@ history =
     ∷ by 2 (What.Ack (op_id 7))
     ∷ by 2 (What.Done (op_id 7) true)
     ∷ []
+
+abbrev pub run : Run
+run = record { graph = graph; limits = limits; history = history }

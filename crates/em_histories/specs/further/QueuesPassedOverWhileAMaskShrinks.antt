@@ -14,6 +14,7 @@ use Rattle.em_log.specs.declared.body.Stmt.TheVariants as stmt
 use Rattle.em_log.specs.declared.body.Expr.TheVariants as expr
 use Rattle.em_log.specs.Operations.{op_id}
 use Rattle.em_histories.specs.Words.{by, queue, pool, object, queue_group, handle, event, cells, pool_named, queue_group_named, atomic_group_named, nothing_given, object_named, queue_named, queue_in_atomic_group, local_queue}
+use Rattle.em_histories.specs.Runs.{Run}
 
 abbrev w : EoDecl
 w =
@@ -258,3 +259,6 @@ history =
     ∷ by 0 (What.End 0 None)
     ∷ by 1 (What.End 0 None)
     ∷ []
+
+abbrev pub run : Run
+run = record { graph = graph; limits = limits; history = history }

@@ -18,6 +18,7 @@ use Rattle.em_log.specs.declared.body.Stmt.TheVariants as stmt
 use Rattle.em_log.specs.declared.body.Expr.TheVariants as expr
 use Rattle.em_log.specs.Operations.{op_id}
 use Rattle.em_histories.specs.Words.{by, queue, pool, object, handle, event, note, pool_named, nothing_given, object_named, queue_named, local_queue}
+use Rattle.em_histories.specs.Runs.{Run}
 
 abbrev x : EoDecl
 x =
@@ -230,3 +231,6 @@ history =
     ∷ by 1 (What.Done (op_id 3) true)
     ∷ by 1 (What.Fault Call.Note (Fault.NoteLost (queue 3)) None)
     ∷ []
+
+abbrev pub run : Run
+run = record { graph = graph; limits = limits; history = history }

@@ -13,6 +13,7 @@ use Rattle.em_log.specs.declared.body.Stmt.TheVariants as stmt
 use Rattle.em_log.specs.declared.body.Expr.TheVariants as expr
 use Rattle.em_log.specs.Operations.{op_id}
 use Rattle.em_histories.specs.Words.{by, queue_group, queue_group_named}
+use Rattle.em_histories.specs.Runs.{Run}
 
 abbrev pub graph : Config
 graph =
@@ -47,3 +48,6 @@ history =
     ∷ by 0 (What.Ack (op_id 0))
     ∷ by 0 (What.Done (op_id 0) true)
     ∷ []
+
+abbrev pub run : Run
+run = record { graph = graph; limits = limits; history = history }

@@ -16,6 +16,7 @@ use Rattle.em_log.specs.declared.graph.Config.{Config}
 use Rattle.em_log.specs.declared.body.Stmt.TheVariants as stmt
 use Rattle.em_log.specs.declared.body.Expr.TheVariants as expr
 use Rattle.em_histories.specs.Words.{by, queue, pool, object, event_group, event, note, pool_named, object_named, queue_named, queue_of_no_object}
+use Rattle.em_histories.specs.Runs.{Run}
 
 abbrev x : EoDecl
 x = object_named (codes "x") false
@@ -78,3 +79,6 @@ history =
     ∷ by 0 (What.Fault Call.Stop (Fault.EoState EoState.Created) None)
     ∷ by 0 (What.End 0 None)
     ∷ []
+
+abbrev pub run : Run
+run = record { graph = graph; limits = limits; history = history }

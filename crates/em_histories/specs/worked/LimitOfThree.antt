@@ -12,6 +12,7 @@ use Rattle.em_log.specs.declared.graph.Config.{Config}
 use Rattle.em_log.specs.declared.body.Stmt.TheVariants as stmt
 use Rattle.em_log.specs.declared.body.Expr.TheVariants as expr
 use Rattle.em_histories.specs.Words.{by, queue, pool, handle, event, pool_named, nothing_given, object_named, queue_named}
+use Rattle.em_histories.specs.Runs.{Run}
 
 abbrev x : EoDecl
 x =
@@ -62,3 +63,6 @@ history =
     ∷ by 0 (What.Send (handle 262144) (queue 0) None None)
     ∷ by 0 (What.End 0 None)
     ∷ []
+
+abbrev pub run : Run
+run = record { graph = graph; limits = limits; history = history }

@@ -6,6 +6,7 @@ use Rattle.em_log.specs.declared.entry.Entry.{Entry}
 use Rattle.em_log.specs.declared.ids.Limits.{Limits}
 use Rattle.em_log.specs.declared.graph.Config.{Config}
 use Rattle.em_histories.specs.Words.{by}
+use Rattle.em_histories.specs.Runs.{Run}
 
 abbrev pub graph : Config
 graph =
@@ -30,3 +31,6 @@ history =
     by 0 (What.Enter Body.Boot)
     ∷ by 0 (What.End 0 None)
     ∷ []
+
+abbrev pub run : Run
+run = record { graph = graph; limits = limits; history = history }

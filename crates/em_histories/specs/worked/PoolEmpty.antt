@@ -12,6 +12,7 @@ use Rattle.em_log.specs.declared.graph.Config.{Config}
 use Rattle.em_log.specs.declared.body.Stmt.TheVariants as stmt
 use Rattle.em_log.specs.declared.body.Expr.TheVariants as expr
 use Rattle.em_histories.specs.Words.{by, pool, handle, event, pool_named}
+use Rattle.em_histories.specs.Runs.{Run}
 
 abbrev pub graph : Config
 graph =
@@ -45,3 +46,6 @@ history =
     ∷ by 0 (What.Alloc (pool 0) (event 131072 0 []))
     ∷ by 0 (What.End 1 None)
     ∷ []
+
+abbrev pub run : Run
+run = record { graph = graph; limits = limits; history = history }

@@ -16,6 +16,7 @@ use Rattle.em_log.specs.declared.body.Stmt.TheVariants as stmt
 use Rattle.em_log.specs.declared.body.Expr.TheVariants as expr
 use Rattle.em_log.specs.Operations.{op_id}
 use Rattle.em_histories.specs.Words.{by, queue, pool, object, event, note, pool_named, object_named, queue_named}
+use Rattle.em_histories.specs.Runs.{Run}
 
 abbrev x : EoDecl
 x = object_named (codes "x") true
@@ -56,3 +57,6 @@ history =
     ∷ by 0 (What.Done (op_id 0) true)
     ∷ by 0 (What.Fault Call.Note (Fault.NoteLost (queue 0)) None)
     ∷ []
+
+abbrev pub run : Run
+run = record { graph = graph; limits = limits; history = history }

@@ -6,6 +6,8 @@ use Rattle.em_log.specs.declared.entry.Begun.{Begun}
 use Rattle.em_log.specs.declared.entry.Entry.{Entry}
 use Rattle.em_log.specs.Operations.{op_id}
 use Rattle.em_histories.specs.Words.{by, queue, pool, queue_group, handle, event, note}
+use Rattle.em_histories.specs.Runs.{Run}
+use Rattle.em_histories.specs.worked.QueueGroupChangedWhileAReceiveRuns.{graph, limits}
 
 abbrev pub history : List Entry
 history =
@@ -30,3 +32,6 @@ history =
     ∷ by 0 (What.End 0 None)
     ∷ by 0 (What.Ack (op_id 0))
     ∷ []
+
+abbrev pub run : Run
+run = record { graph = graph; limits = limits; history = history }

@@ -6,6 +6,8 @@ use Rattle.em_log.specs.declared.entry.Begun.{Begun}
 use Rattle.em_log.specs.declared.entry.Entry.{Entry}
 use Rattle.em_log.specs.Operations.{op_id}
 use Rattle.em_histories.specs.Words.{by, queue, pool, object, handle, event, note}
+use Rattle.em_histories.specs.Runs.{Run}
+use Rattle.em_histories.specs.worked.ObjectStoppedWhileAReceiveRuns.{graph, limits}
 
 abbrev pub history : List Entry
 history =
@@ -35,3 +37,6 @@ history =
     ∷ by 1 (What.Done (op_id 0) true)
     ∷ by 1 (What.Out (queue 2) 2 [])
     ∷ []
+
+abbrev pub run : Run
+run = record { graph = graph; limits = limits; history = history }

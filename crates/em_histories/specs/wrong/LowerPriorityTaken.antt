@@ -4,6 +4,8 @@ use Rattle.em_log.specs.declared.entry.What.{What}
 use Rattle.em_log.specs.declared.entry.Body.{Body}
 use Rattle.em_log.specs.declared.entry.Entry.{Entry}
 use Rattle.em_histories.specs.Words.{by, queue, pool, handle, event, cells}
+use Rattle.em_histories.specs.Runs.{Run}
+use Rattle.em_histories.specs.worked.TwoPrioritiesInOneAtomicGroup.{graph, limits}
 
 abbrev pub history : List Entry
 history =
@@ -24,3 +26,6 @@ history =
     ∷ by 0 (What.Free (handle 131073))
     ∷ by 0 (What.End 0 (Some (cells (0 ∷ 0 ∷ 0 ∷ 0 ∷ 0 ∷ 0 ∷ 0 ∷ 0 ∷ []))))
     ∷ []
+
+abbrev pub run : Run
+run = record { graph = graph; limits = limits; history = history }

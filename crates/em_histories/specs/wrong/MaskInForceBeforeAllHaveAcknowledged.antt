@@ -7,6 +7,8 @@ use Rattle.em_log.specs.declared.entry.Begun.{Begun}
 use Rattle.em_log.specs.declared.entry.Entry.{Entry}
 use Rattle.em_log.specs.Operations.{op_id}
 use Rattle.em_histories.specs.Words.{by, queue, pool, queue_group, handle, event}
+use Rattle.em_histories.specs.Runs.{Run}
+use Rattle.em_histories.specs.worked.QueueGroupChangedWhileAReceiveRuns.{graph, limits}
 
 abbrev pub history : List Entry
 history =
@@ -32,3 +34,6 @@ history =
     ∷ by 1 (What.Ack (op_id 1))
     ∷ by 1 (What.Done (op_id 1) true)
     ∷ []
+
+abbrev pub run : Run
+run = record { graph = graph; limits = limits; history = history }

@@ -4,6 +4,8 @@ use Rattle.em_log.specs.declared.entry.What.{What}
 use Rattle.em_log.specs.declared.entry.Body.{Body}
 use Rattle.em_log.specs.declared.entry.Entry.{Entry}
 use Rattle.em_histories.specs.Words.{by, queue, pool, event_group, handle, event, stamp, note}
+use Rattle.em_histories.specs.Runs.{Run}
+use Rattle.em_histories.specs.worked.ApplicationAborted.{graph, limits}
 
 abbrev pub history : List Entry
 history =
@@ -31,3 +33,6 @@ history =
     ∷ by 0 (What.Notify (event_group 0) 2)
     ∷ by 0 (What.Out (queue 1) 8 [])
     ∷ []
+
+abbrev pub run : Run
+run = record { graph = graph; limits = limits; history = history }

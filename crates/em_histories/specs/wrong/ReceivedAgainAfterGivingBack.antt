@@ -6,6 +6,8 @@ use Rattle.em_log.specs.declared.entry.Begun.{Begun}
 use Rattle.em_log.specs.declared.entry.Entry.{Entry}
 use Rattle.em_log.specs.Operations.{op_id}
 use Rattle.em_histories.specs.Words.{by, queue, pool, queue_group, handle, event, cells}
+use Rattle.em_histories.specs.Runs.{Run}
+use Rattle.em_histories.specs.worked.BurstGivenBackForAChange.{graph, limits}
 
 abbrev pub history : List Entry
 history =
@@ -43,3 +45,6 @@ history =
     ∷ by 0 (What.Free (handle 196609))
     ∷ by 0 (What.End 0 (Some (cells (0 ∷ 0 ∷ 0 ∷ 0 ∷ 0 ∷ 0 ∷ 0 ∷ 0 ∷ []))))
     ∷ []
+
+abbrev pub run : Run
+run = record { graph = graph; limits = limits; history = history }

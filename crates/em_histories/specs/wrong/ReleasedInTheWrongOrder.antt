@@ -5,6 +5,8 @@ use Rattle.em_log.specs.declared.entry.What.{What}
 use Rattle.em_log.specs.declared.entry.Body.{Body}
 use Rattle.em_log.specs.declared.entry.Entry.{Entry}
 use Rattle.em_histories.specs.Words.{by, queue, pool, handle, event}
+use Rattle.em_histories.specs.Runs.{Run}
+use Rattle.em_histories.specs.worked.ThreeOrderedContextsEndOutOfOrder.{graph, limits}
 
 abbrev pub history : List Entry
 history =
@@ -43,3 +45,6 @@ history =
     ∷ by 1 (What.Out (queue 1) 3 [])
     ∷ by 1 (What.Out (queue 1) 2 [])
     ∷ []
+
+abbrev pub run : Run
+run = record { graph = graph; limits = limits; history = history }

@@ -4,6 +4,8 @@ use Rattle.em_log.specs.declared.entry.What.{What}
 use Rattle.em_log.specs.declared.entry.Body.{Body}
 use Rattle.em_log.specs.declared.entry.Entry.{Entry}
 use Rattle.em_histories.specs.Words.{by, queue, pool, handle, event}
+use Rattle.em_histories.specs.Runs.{Run}
+use Rattle.em_histories.specs.worked.SentTwice.{graph, limits}
 
 abbrev pub history : List Entry
 history =
@@ -17,3 +19,6 @@ history =
     ∷ by 0 (What.Free (handle 131072))
     ∷ by 0 (What.End 0 None)
     ∷ []
+
+abbrev pub run : Run
+run = record { graph = graph; limits = limits; history = history }
