@@ -1,0 +1,14 @@
+pub mod Pieces
+pub mod Digits
+pub mod Binds
+pub mod Items
+pub mod Lines
+pub mod Forms
+pub mod Numbers
+pub mod Several
+pub mod Parts
+pub mod WhatLaws
+pub mod Spacing
+pub mod Appending
+pub mod LineLaws
+pub mod TextLaws

@@ -1,0 +1,17 @@
+//! The trace of a history as text: written exactly, read back exactly.
+#![tactic(auto)]
+
+mod entries;
+mod fields;
+mod history;
+mod judging;
+mod kind;
+mod laws;
+mod line;
+mod reading;
+mod text;
+mod writing;
+
+pub use history::{Trace, TraceEnd, read_history};
+pub use laws::{reading_undoes_writing, texts_differ};
+pub use writing::{write_entry, write_history};
