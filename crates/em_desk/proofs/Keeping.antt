@@ -127,7 +127,6 @@ say-keeps p l past handles arrived n now v k may enough =
     record {
       less = omega arith;
       keeps = record {
-        few_events = k.few_events;
         limits = k.limits;
         lawful = block-lawful (simple p) l past 0 (What.Say v) (omega arith) k.lawful (Asks (Ask.Say v) may refl);
         standing = standing-stays past now (What.Say v) (λ c. refl) (λ c. refl) o k.standing;
@@ -168,7 +167,6 @@ alloc-keeps p l past handles arrived n now pool kind words e k may enough accept
     record {
       less = omega arith;
       keeps = record {
-        few_events = k.few_events;
         limits = k.limits;
         lawful = block-lawful (simple p) l past 0 (What.Alloc pool e) (omega arith) k.lawful (Asks a may gives);
         standing = standing-stays past now (What.Alloc pool e) (λ c. refl) (λ c. refl) o k.standing;
@@ -228,7 +226,6 @@ free-keeps p l past handles arrived n now w k may enough accepted =
     record {
       less = omega arith;
       keeps = record {
-        few_events = k.few_events;
         limits = k.limits;
         lawful = block-lawful (simple p) l past 0 e (omega arith) k.lawful (Asks a may (own-lead (simple p) past a accepted));
         standing = standing-stays past now e (λ c. refl) (λ c. refl) o k.standing;
@@ -304,7 +301,6 @@ send-first p l past handles arrived n now w m k may enough accepted minted =
     record {
       less = omega arith;
       keeps = record {
-        few_events = k.few_events;
         limits = k.limits;
         lawful = block-lawful (simple p) l past 0 e (omega arith) k.lawful (Asks a may gives);
         standing = standing-stays past now e (λ c. refl) (λ c. refl) o k.standing;
@@ -417,7 +413,6 @@ end-keeps p l past handles arrived n now cells k may =
     record {
       less = rw on (omega arith);
       keeps = record {
-        few_events = k.few_events;
         limits = k.limits;
         lawful = subst (λ (es : List Entry). Lawful (simple p) l (onto es (entry_by 0 e ∷ past))) alone
             (block-lawful (simple p) l past 0 e (omega arith) k.lawful (Asks a may gives));

@@ -7,3 +7,4 @@ pub mod Keeping
 pub mod Fields
 pub mod Ready
 pub mod Taking
+pub mod Row

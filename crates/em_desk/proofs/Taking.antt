@@ -102,7 +102,6 @@ pub take-keeps : (p : PoolShape) (l : Limits) (past : Past) (handles : List ℕ)
     → Keeps p l (started_with (again past x) ∷ took ∷ past) ((again past x).handle.0 ∷ []) arrived (n + 1) true
 take-keeps p l past handles arrived n now x k some below next =
     record {
-      few_events = k.few_events;
       limits = k.limits;
       lawful = subst (λ (h : Past). Lawful (simple p) l h) (block-next p l past x next)
           (block-lawful (simple p) l past 0 (What.Take (record { 0 = 0 }) 1 None) (omega arith) k.lawful (Takes 0 next.choice refl));

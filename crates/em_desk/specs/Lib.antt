@@ -2,3 +2,4 @@ pub mod Simple
 pub mod State
 pub mod Search
 pub mod Stands
+pub mod OneEvent

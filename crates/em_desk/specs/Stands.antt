@@ -69,7 +69,6 @@ spare p past now = if now then suc (left (simple p) past 0) else 0
 -- the handles that the context holds, the events that arrived at the queue, how many of them have started, and whether
 -- a context is open
 pub record Keeps (p : PoolShape) (l : Limits) (past : Past) (handles : List ℕ) (arrived : List Event) (n : ℕ) (now : Bool) : Type 0 where
-  pub few_events : p.events ≤ 4096
   pub limits : AreInRange l
   pub lawful : Lawful (simple p) l past
   pub standing : Standing past now

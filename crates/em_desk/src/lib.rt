@@ -2,9 +2,9 @@
 #![tactic(auto)]
 
 pub mod desk;
-pub mod mint;
-pub mod room;
-pub mod search;
+mod mint;
+mod room;
+mod search;
 #[cfg(test)]
 mod tests;
 
