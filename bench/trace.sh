@@ -1,6 +1,6 @@
 #!/bin/sh
 # Entries per second, written into memory and read back, at three sizes: the best of seven runs each.
-cd "$(dirname "$0")/../crates/em_trace_bench" || exit 1
+cd "$(dirname "$0")/../crates/trace_bench" || exit 1
 for count in 1000 10000 100000; do
     for turn in 1 2 3 4 5 6 7; do
         rt run -- "$count"

@@ -35,7 +35,7 @@ minted_answer (Some e) = Answer.Minted e
 
 -- what an ask is answered whose first entry this is
 abbrev pub answer_of : What → Answer
-answer_of (What.Fault call f scope) = Answer.Refused f
+answer_of (What.Fault _ f _) = Answer.Refused f
 answer_of (What.Alloc p e) = Answer.Minted e
 answer_of (What.Claim e) = minted_answer e
 answer_of (What.Dequeue q e) = minted_answer e

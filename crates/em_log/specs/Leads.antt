@@ -265,8 +265,8 @@ abbrev pub scope : Declarations → Past → ℕ → Option EoId
 scope k past c = option_map (λ x. record { 0 = x }) (context_object k past c)
 
 abbrev pub refused_or : Declarations → Past → ℕ → Call → Option Fault → What → What
-refused_or k past c call None w = w
-refused_or k past c call (Some f) w = What.Fault call f (scope k past c)
+refused_or k past c asked None w = w
+refused_or k past c asked (Some f) w = What.Fault asked f (scope k past c)
 
 -- the entry that an ask of core c gives
 abbrev pub lead : Declarations → Past → ℕ → Ask → What

@@ -1,5 +1,6 @@
 pub mod formers
 pub mod Declarations
+pub mod Items
 pub mod History
 pub mod Handles
 pub mod Contexts

@@ -73,7 +73,7 @@ notification k now d (Some s) =
 -- ends of contexts
 
 abbrev pub failed_after : What → Bool → Bool
-failed_after (What.Fault call (Fault.StartFailed op) scope) was = true
+failed_after (What.Fault _ (Fault.StartFailed op) scope) was = true
 failed_after (What.Enter b) was = false
 failed_after w was = was
 

@@ -1,0 +1,9 @@
+pub mod Newest
+pub mod Found
+pub mod FirstFree
+pub mod Free
+pub mod Without
+pub mod Keeping
+pub mod Fields
+pub mod Ready
+pub mod Taking

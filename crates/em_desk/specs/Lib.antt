@@ -1,0 +1,4 @@
+pub mod Simple
+pub mod State
+pub mod Search
+pub mod Stands

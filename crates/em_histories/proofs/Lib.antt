@@ -1,0 +1,5 @@
+pub mod Chain
+pub mod Refusals
+pub mod worked
+pub mod further
+pub mod wrong

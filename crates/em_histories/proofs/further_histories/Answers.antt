@@ -1,0 +1,125 @@
+use Rattle.em_histories.proofs.further.BurstsUntakenAndCellsOfTwoContexts as bursts_untaken_and_cells_of_two_contexts
+use Rattle.em_histories.proofs.further.ClosedQueuesOpenAgain as closed_queues_open_again
+use Rattle.em_histories.proofs.further.ErrorBodiesEverywhere as error_bodies_everywhere
+use Rattle.em_histories.proofs.further.ErrorBodiesOfOperations as error_bodies_of_operations
+use Rattle.em_histories.proofs.further.EventGroupsAbortedAndIncremented as event_groups_aborted_and_incremented
+use Rattle.em_histories.proofs.further.EventsLostAtEndsOfAllContexts as events_lost_at_ends_of_all_contexts
+use Rattle.em_histories.proofs.further.EveryFaultOfAHandle as every_fault_of_a_handle
+use Rattle.em_histories.proofs.further.EveryWrongKind as every_wrong_kind
+use Rattle.em_histories.proofs.further.Expressions as expressions
+use Rattle.em_histories.proofs.further.FailedStartAndThenAGoodOne as failed_start_and_then_a_good_one
+use Rattle.em_histories.proofs.further.FailedStartOfTheSecondObject as failed_start_of_the_second_object
+use Rattle.em_histories.proofs.further.HandlesLostByAnEnd as handles_lost_by_an_end
+use Rattle.em_histories.proofs.further.HeldSendOfAnIndexThatWentThereBefore as held_send_of_an_index_that_went_there_before
+use Rattle.em_histories.proofs.further.HeldSendsIntoClosedQueuesAndGroups as held_sends_into_closed_queues_and_groups
+use Rattle.em_histories.proofs.further.HeldSendsOfTwoOrderedQueues as held_sends_of_two_ordered_queues
+use Rattle.em_histories.proofs.further.KeptEventsOfTwoObjects as kept_events_of_two_objects
+use Rattle.em_histories.proofs.further.LimitReachedInABurst as limit_reached_in_a_burst
+use Rattle.em_histories.proofs.further.LocalQueuesOfTwoCores as local_queues_of_two_cores
+use Rattle.em_histories.proofs.further.MembersOfAnAbortedApplication as members_of_an_aborted_application
+use Rattle.em_histories.proofs.further.MixedFailedStartStampedLocalAndAtomic as mixed_failed_start_stamped_local_and_atomic
+use Rattle.em_histories.proofs.further.MixedStartStopAndLostNotesWithBursts as mixed_start_stop_and_lost_notes_with_bursts
+use Rattle.em_histories.proofs.further.MixedWithBurstsGivenBack as mixed_with_bursts_given_back
+use Rattle.em_histories.proofs.further.ModifyOfTwoGroups as modify_of_two_groups
+use Rattle.em_histories.proofs.further.NotesLostAtANotify as notes_lost_at_a_notify
+use Rattle.em_histories.proofs.further.PoolsAndGenerations as pools_and_generations
+use Rattle.em_histories.proofs.further.PrioritiesOfFiveQueues as priorities_of_five_queues
+use Rattle.em_histories.proofs.further.QueuesPassedOverWhileAMaskGrows as queues_passed_over_while_a_mask_grows
+use Rattle.em_histories.proofs.further.QueuesPassedOverWhileAMaskShrinks as queues_passed_over_while_a_mask_shrinks
+use Rattle.em_histories.proofs.further.ReleasedByEarlyAndLateEnds as released_by_early_and_late_ends
+use Rattle.em_histories.proofs.further.StepsOfTheLeastOperationFirst as steps_of_the_least_operation_first
+use Rattle.em_histories.proofs.further.StopAndStartOfTwoObjectsOnThreeCores as stop_and_start_of_two_objects_on_three_cores
+use Rattle.em_histories.proofs.further_histories.Goals as goal
+
+pub returns-clause-bursts_untaken_and_cells_of_two_contexts : goal.returns-clause-bursts_untaken_and_cells_of_two_contexts
+returns-clause-bursts_untaken_and_cells_of_two_contexts c = bursts_untaken_and_cells_of_two_contexts.is_legal
+
+pub returns-clause-closed_queues_open_again : goal.returns-clause-closed_queues_open_again
+returns-clause-closed_queues_open_again c = closed_queues_open_again.is_legal
+
+pub returns-clause-error_bodies_everywhere : goal.returns-clause-error_bodies_everywhere
+returns-clause-error_bodies_everywhere c = error_bodies_everywhere.is_legal
+
+pub returns-clause-error_bodies_of_operations : goal.returns-clause-error_bodies_of_operations
+returns-clause-error_bodies_of_operations c = error_bodies_of_operations.is_legal
+
+pub returns-clause-event_groups_aborted_and_incremented : goal.returns-clause-event_groups_aborted_and_incremented
+returns-clause-event_groups_aborted_and_incremented c = event_groups_aborted_and_incremented.is_legal
+
+pub returns-clause-events_lost_at_ends_of_all_contexts : goal.returns-clause-events_lost_at_ends_of_all_contexts
+returns-clause-events_lost_at_ends_of_all_contexts c = events_lost_at_ends_of_all_contexts.is_legal
+
+pub returns-clause-every_fault_of_a_handle : goal.returns-clause-every_fault_of_a_handle
+returns-clause-every_fault_of_a_handle c = every_fault_of_a_handle.is_legal
+
+pub returns-clause-every_wrong_kind : goal.returns-clause-every_wrong_kind
+returns-clause-every_wrong_kind c = every_wrong_kind.is_legal
+
+pub returns-clause-expressions : goal.returns-clause-expressions
+returns-clause-expressions c = expressions.is_legal
+
+pub returns-clause-failed_start_and_then_a_good_one : goal.returns-clause-failed_start_and_then_a_good_one
+returns-clause-failed_start_and_then_a_good_one c = failed_start_and_then_a_good_one.is_legal
+
+pub returns-clause-failed_start_of_the_second_object : goal.returns-clause-failed_start_of_the_second_object
+returns-clause-failed_start_of_the_second_object c = failed_start_of_the_second_object.is_legal
+
+pub returns-clause-handles_lost_by_an_end : goal.returns-clause-handles_lost_by_an_end
+returns-clause-handles_lost_by_an_end c = handles_lost_by_an_end.is_legal
+
+pub returns-clause-held_send_of_an_index_that_went_there_before : goal.returns-clause-held_send_of_an_index_that_went_there_before
+returns-clause-held_send_of_an_index_that_went_there_before c = held_send_of_an_index_that_went_there_before.is_legal
+
+pub returns-clause-held_sends_into_closed_queues_and_groups : goal.returns-clause-held_sends_into_closed_queues_and_groups
+returns-clause-held_sends_into_closed_queues_and_groups c = held_sends_into_closed_queues_and_groups.is_legal
+
+pub returns-clause-held_sends_of_two_ordered_queues : goal.returns-clause-held_sends_of_two_ordered_queues
+returns-clause-held_sends_of_two_ordered_queues c = held_sends_of_two_ordered_queues.is_legal
+
+pub returns-clause-kept_events_of_two_objects : goal.returns-clause-kept_events_of_two_objects
+returns-clause-kept_events_of_two_objects c = kept_events_of_two_objects.is_legal
+
+pub returns-clause-limit_reached_in_a_burst : goal.returns-clause-limit_reached_in_a_burst
+returns-clause-limit_reached_in_a_burst c = limit_reached_in_a_burst.is_legal
+
+pub returns-clause-local_queues_of_two_cores : goal.returns-clause-local_queues_of_two_cores
+returns-clause-local_queues_of_two_cores c = local_queues_of_two_cores.is_legal
+
+pub returns-clause-members_of_an_aborted_application : goal.returns-clause-members_of_an_aborted_application
+returns-clause-members_of_an_aborted_application c = members_of_an_aborted_application.is_legal
+
+pub returns-clause-mixed_failed_start_stamped_local_and_atomic : goal.returns-clause-mixed_failed_start_stamped_local_and_atomic
+returns-clause-mixed_failed_start_stamped_local_and_atomic c = mixed_failed_start_stamped_local_and_atomic.is_legal
+
+pub returns-clause-mixed_start_stop_and_lost_notes_with_bursts : goal.returns-clause-mixed_start_stop_and_lost_notes_with_bursts
+returns-clause-mixed_start_stop_and_lost_notes_with_bursts c = mixed_start_stop_and_lost_notes_with_bursts.is_legal
+
+pub returns-clause-mixed_with_bursts_given_back : goal.returns-clause-mixed_with_bursts_given_back
+returns-clause-mixed_with_bursts_given_back c = mixed_with_bursts_given_back.is_legal
+
+pub returns-clause-modify_of_two_groups : goal.returns-clause-modify_of_two_groups
+returns-clause-modify_of_two_groups c = modify_of_two_groups.is_legal
+
+pub returns-clause-notes_lost_at_a_notify : goal.returns-clause-notes_lost_at_a_notify
+returns-clause-notes_lost_at_a_notify c = notes_lost_at_a_notify.is_legal
+
+pub returns-clause-pools_and_generations : goal.returns-clause-pools_and_generations
+returns-clause-pools_and_generations c = pools_and_generations.is_legal
+
+pub returns-clause-priorities_of_five_queues : goal.returns-clause-priorities_of_five_queues
+returns-clause-priorities_of_five_queues c = priorities_of_five_queues.is_legal
+
+pub returns-clause-queues_passed_over_while_a_mask_grows : goal.returns-clause-queues_passed_over_while_a_mask_grows
+returns-clause-queues_passed_over_while_a_mask_grows c = queues_passed_over_while_a_mask_grows.is_legal
+
+pub returns-clause-queues_passed_over_while_a_mask_shrinks : goal.returns-clause-queues_passed_over_while_a_mask_shrinks
+returns-clause-queues_passed_over_while_a_mask_shrinks c = queues_passed_over_while_a_mask_shrinks.is_legal
+
+pub returns-clause-released_by_early_and_late_ends : goal.returns-clause-released_by_early_and_late_ends
+returns-clause-released_by_early_and_late_ends c = released_by_early_and_late_ends.is_legal
+
+pub returns-clause-steps_of_the_least_operation_first : goal.returns-clause-steps_of_the_least_operation_first
+returns-clause-steps_of_the_least_operation_first c = steps_of_the_least_operation_first.is_legal
+
+pub returns-clause-stop_and_start_of_two_objects_on_three_cores : goal.returns-clause-stop_and_start_of_two_objects_on_three_cores
+returns-clause-stop_and_start_of_two_objects_on_three_cores c = stop_and_start_of_two_objects_on_three_cores.is_legal

@@ -1,0 +1,69 @@
+use Rattle.em_histories.proofs.wrong.ReleasedInTheWrongOrder as released_in_the_wrong_order
+use Rattle.em_histories.proofs.wrong.ReleasedBeforeItsTicketIsTheFirst as released_before_its_ticket_is_the_first
+use Rattle.em_histories.proofs.wrong.HeldSendThatNeverEnters as held_send_that_never_enters
+use Rattle.em_histories.proofs.wrong.AcknowledgedWhileAReceiveRuns as acknowledged_while_a_receive_runs
+use Rattle.em_histories.proofs.wrong.DoneBeforeAllHaveAcknowledged as done_before_all_have_acknowledged
+use Rattle.em_histories.proofs.wrong.MaskInForceBeforeAllHaveAcknowledged as mask_in_force_before_all_have_acknowledged
+use Rattle.em_histories.proofs.wrong.LocalStopEnteredWhileAReceiveRuns as local_stop_entered_while_a_receive_runs
+use Rattle.em_histories.proofs.wrong.StaleHandleFreed as stale_handle_freed
+use Rattle.em_histories.proofs.wrong.SpentHandleSent as spent_handle_sent
+use Rattle.em_histories.proofs.wrong.HandleGivenAgain as handle_given_again
+use Rattle.em_histories.proofs.wrong.LowerPriorityTaken as lower_priority_taken
+use Rattle.em_histories.proofs.wrong.AtomicGroupHeldByTwoCores as atomic_group_held_by_two_cores
+use Rattle.em_histories.proofs.wrong.TakenFromADisabledQueue as taken_from_a_disabled_queue
+use Rattle.em_histories.proofs.wrong.MoreReceivesThanTheLimit as more_receives_than_the_limit
+use Rattle.em_histories.proofs.wrong.NotifiedTwice as notified_twice
+use Rattle.em_histories.proofs.wrong.AbortedApplicationNotifies as aborted_application_notifies
+use Rattle.em_histories.proofs.wrong.ReceivedAgainAfterGivingBack as received_again_after_giving_back
+use Rattle.em_histories.proofs.wrong_histories.Goals as goal
+
+pub returns-clause-released_in_the_wrong_order : goal.returns-clause-released_in_the_wrong_order
+returns-clause-released_in_the_wrong_order c = released_in_the_wrong_order.is_unlawful
+
+pub returns-clause-released_before_its_ticket_is_the_first : goal.returns-clause-released_before_its_ticket_is_the_first
+returns-clause-released_before_its_ticket_is_the_first c = released_before_its_ticket_is_the_first.is_unlawful
+
+pub returns-clause-held_send_that_never_enters : goal.returns-clause-held_send_that_never_enters
+returns-clause-held_send_that_never_enters c = held_send_that_never_enters.is_unlawful
+
+pub returns-clause-acknowledged_while_a_receive_runs : goal.returns-clause-acknowledged_while_a_receive_runs
+returns-clause-acknowledged_while_a_receive_runs c = acknowledged_while_a_receive_runs.is_unlawful
+
+pub returns-clause-done_before_all_have_acknowledged : goal.returns-clause-done_before_all_have_acknowledged
+returns-clause-done_before_all_have_acknowledged c = done_before_all_have_acknowledged.is_unlawful
+
+pub returns-clause-mask_in_force_before_all_have_acknowledged : goal.returns-clause-mask_in_force_before_all_have_acknowledged
+returns-clause-mask_in_force_before_all_have_acknowledged c = mask_in_force_before_all_have_acknowledged.is_unlawful
+
+pub returns-clause-local_stop_entered_while_a_receive_runs : goal.returns-clause-local_stop_entered_while_a_receive_runs
+returns-clause-local_stop_entered_while_a_receive_runs c = local_stop_entered_while_a_receive_runs.is_unlawful
+
+pub returns-clause-stale_handle_freed : goal.returns-clause-stale_handle_freed
+returns-clause-stale_handle_freed c = stale_handle_freed.is_unlawful
+
+pub returns-clause-spent_handle_sent : goal.returns-clause-spent_handle_sent
+returns-clause-spent_handle_sent c = spent_handle_sent.is_unlawful
+
+pub returns-clause-handle_given_again : goal.returns-clause-handle_given_again
+returns-clause-handle_given_again c = handle_given_again.is_unlawful
+
+pub returns-clause-lower_priority_taken : goal.returns-clause-lower_priority_taken
+returns-clause-lower_priority_taken c = lower_priority_taken.is_unlawful
+
+pub returns-clause-atomic_group_held_by_two_cores : goal.returns-clause-atomic_group_held_by_two_cores
+returns-clause-atomic_group_held_by_two_cores c = atomic_group_held_by_two_cores.is_unlawful
+
+pub returns-clause-taken_from_a_disabled_queue : goal.returns-clause-taken_from_a_disabled_queue
+returns-clause-taken_from_a_disabled_queue c = taken_from_a_disabled_queue.is_unlawful
+
+pub returns-clause-more_receives_than_the_limit : goal.returns-clause-more_receives_than_the_limit
+returns-clause-more_receives_than_the_limit c = more_receives_than_the_limit.is_unlawful
+
+pub returns-clause-notified_twice : goal.returns-clause-notified_twice
+returns-clause-notified_twice c = notified_twice.is_unlawful
+
+pub returns-clause-aborted_application_notifies : goal.returns-clause-aborted_application_notifies
+returns-clause-aborted_application_notifies c = aborted_application_notifies.is_unlawful
+
+pub returns-clause-received_again_after_giving_back : goal.returns-clause-received_again_after_giving_back
+returns-clause-received_again_after_giving_back c = received_again_after_giving_back.is_unlawful

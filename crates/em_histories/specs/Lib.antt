@@ -1,0 +1,5 @@
+pub mod Words
+pub mod Ends
+pub mod worked
+pub mod further
+pub mod wrong

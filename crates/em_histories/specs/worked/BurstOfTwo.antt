@@ -1,0 +1,69 @@
+-- Bursts of at most two events from an atomic queue of three.
+use Rattle.std.specs.Prelude.{true, List, [], ◌∷◌, Some, None, codes}
+use Rattle.em_log.specs.declared.entry.What.{What}
+use Rattle.em_log.specs.declared.entry.Body.{Body}
+use Rattle.em_log.specs.declared.ids.Kind.{Kind}
+use Rattle.em_log.specs.declared.graph.Priority.{Priority}
+use Rattle.em_log.specs.declared.graph.Decl.{Decl}
+use Rattle.em_log.specs.declared.entry.Entry.{Entry}
+use Rattle.em_log.specs.declared.ids.Limits.{Limits}
+use Rattle.em_log.specs.declared.graph.EoDecl.{EoDecl}
+use Rattle.em_log.specs.declared.graph.Config.{Config}
+use Rattle.em_log.specs.declared.body.Stmt.TheVariants as stmt
+use Rattle.em_log.specs.declared.body.Expr.TheVariants as expr
+use Rattle.em_histories.specs.Words.{by, queue, pool, handle, event, cells, pool_named, nothing_given, object_named, queue_named}
+
+abbrev x : EoDecl
+x =
+    record (object_named (codes "x") true) {
+      receive =
+          stmt.Free expr.Me
+          ∷ [];
+      given = record nothing_given { receive = true };
+    }
+
+abbrev pub graph : Config
+graph =
+    record {
+      cores = 1;
+      order = Decl.Pool 0 ∷ Decl.Eo 0 ∷ Decl.Queue 0 ∷ [];
+      pools = pool_named (codes "p") 3 0 ∷ [];
+      groups = [];
+      eos = x ∷ [];
+      agroups = [];
+      queues = queue_named (codes "q") Kind.Atomic 0 Priority.Normal 0 ∷ [];
+      egroups = [];
+      boot =
+          stmt.Repeat 3
+          (stmt.Alloc 0 (pool 0) (expr.Number 0) []
+          ∷ stmt.Send (expr.Var 0) (queue 0)
+          ∷ [])
+          ∷ [];
+      error = None;
+    }
+
+abbrev pub limits : Limits
+limits = record { receives = 10; burst = 2 }
+
+abbrev pub history : List Entry
+history =
+    by 0 (What.Enter Body.Boot)
+    ∷ by 0 (What.Alloc (pool 0) (event 65536 0 []))
+    ∷ by 0 (What.Send (handle 65536) (queue 0) None None)
+    ∷ by 0 (What.Alloc (pool 0) (event 65537 0 []))
+    ∷ by 0 (What.Send (handle 65537) (queue 0) None None)
+    ∷ by 0 (What.Alloc (pool 0) (event 65538 0 []))
+    ∷ by 0 (What.Send (handle 65538) (queue 0) None None)
+    ∷ by 0 (What.End 0 None)
+    ∷ by 0 (What.Take (queue 0) 2 None)
+    ∷ by 0 (What.Start (queue 0) (event 131072 0 []) None)
+    ∷ by 0 (What.Free (handle 131072))
+    ∷ by 0 (What.End 0 (Some (cells (0 ∷ 0 ∷ 0 ∷ 0 ∷ 0 ∷ 0 ∷ 0 ∷ 0 ∷ []))))
+    ∷ by 0 (What.Start (queue 0) (event 131073 0 []) None)
+    ∷ by 0 (What.Free (handle 131073))
+    ∷ by 0 (What.End 0 (Some (cells (0 ∷ 0 ∷ 0 ∷ 0 ∷ 0 ∷ 0 ∷ 0 ∷ 0 ∷ []))))
+    ∷ by 0 (What.Take (queue 0) 1 None)
+    ∷ by 0 (What.Start (queue 0) (event 131074 0 []) None)
+    ∷ by 0 (What.Free (handle 131074))
+    ∷ by 0 (What.End 0 (Some (cells (0 ∷ 0 ∷ 0 ∷ 0 ∷ 0 ∷ 0 ∷ 0 ∷ 0 ∷ []))))
+    ∷ []

@@ -1,0 +1,67 @@
+-- A local queue is served by the core that sent to it; an event is kept and claimed; a dequeue of an empty queue
+-- gives none.
+use Rattle.std.specs.Prelude.{true, List, [], ◌∷◌, Some, None, codes}
+use Rattle.em_log.specs.declared.entry.What.{What}
+use Rattle.em_log.specs.declared.entry.Body.{Body}
+use Rattle.em_log.specs.declared.fault.Fault.{Fault}
+use Rattle.em_log.specs.declared.fault.Call.{Call}
+use Rattle.em_log.specs.declared.ids.Kind.{Kind}
+use Rattle.em_log.specs.declared.graph.Priority.{Priority}
+use Rattle.em_log.specs.declared.graph.Decl.{Decl}
+use Rattle.em_log.specs.declared.entry.Entry.{Entry}
+use Rattle.em_log.specs.declared.ids.Limits.{Limits}
+use Rattle.em_log.specs.declared.graph.EoDecl.{EoDecl}
+use Rattle.em_log.specs.declared.graph.Config.{Config}
+use Rattle.em_log.specs.declared.body.Stmt.TheVariants as stmt
+use Rattle.em_log.specs.declared.body.Expr.TheVariants as expr
+use Rattle.em_histories.specs.Words.{by, queue, pool, object, handle, event, pool_named, nothing_given, object_named, local_queue, queue_of_no_object}
+
+abbrev x : EoDecl
+x =
+    record (object_named (codes "x") true) {
+      receive =
+          stmt.Keep expr.Me
+          ∷ stmt.Claim 0
+          ∷ stmt.Dequeue 1 (queue 1)
+          ∷ stmt.Free (expr.Var 0)
+          ∷ stmt.Free expr.Me
+          ∷ [];
+      given = record nothing_given { receive = true };
+    }
+
+abbrev pub graph : Config
+graph =
+    record {
+      cores = 2;
+      order = Decl.Pool 0 ∷ Decl.Eo 0 ∷ Decl.Queue 0 ∷ Decl.Queue 1 ∷ [];
+      pools = pool_named (codes "p") 1 0 ∷ [];
+      groups = [];
+      eos = x ∷ [];
+      agroups = [];
+      queues = local_queue (codes "l") 0 Priority.Normal ∷ queue_of_no_object (codes "u") Kind.Unscheduled ∷ [];
+      egroups = [];
+      boot =
+          stmt.Alloc 0 (pool 0) (expr.Number 4) []
+          ∷ stmt.Send (expr.Var 0) (queue 0)
+          ∷ [];
+      error = None;
+    }
+
+abbrev pub limits : Limits
+limits = record { receives = 10; burst = 1 }
+
+abbrev pub history : List Entry
+history =
+    by 0 (What.Enter Body.Boot)
+    ∷ by 0 (What.Alloc (pool 0) (event 65536 4 []))
+    ∷ by 0 (What.Send (handle 65536) (queue 0) None None)
+    ∷ by 0 (What.End 0 None)
+    ∷ by 0 (What.Take (queue 0) 1 None)
+    ∷ by 0 (What.Start (queue 0) (event 131072 4 []) None)
+    ∷ by 0 (What.Keep (handle 131072))
+    ∷ by 0 (What.Claim (Some (event 196608 4 [])))
+    ∷ by 0 (What.Dequeue (queue 1) None)
+    ∷ by 0 (What.Free (handle 196608))
+    ∷ by 0 (What.Fault Call.Free (Fault.SpentBySend 6) (Some (object 0)))
+    ∷ by 0 (What.End 0 None)
+    ∷ []

@@ -1,0 +1,17 @@
+pub mod ReleasedInTheWrongOrder
+pub mod ReleasedBeforeItsTicketIsTheFirst
+pub mod HeldSendThatNeverEnters
+pub mod AcknowledgedWhileAReceiveRuns
+pub mod DoneBeforeAllHaveAcknowledged
+pub mod MaskInForceBeforeAllHaveAcknowledged
+pub mod LocalStopEnteredWhileAReceiveRuns
+pub mod StaleHandleFreed
+pub mod SpentHandleSent
+pub mod HandleGivenAgain
+pub mod LowerPriorityTaken
+pub mod AtomicGroupHeldByTwoCores
+pub mod TakenFromADisabledQueue
+pub mod MoreReceivesThanTheLimit
+pub mod NotifiedTwice
+pub mod AbortedApplicationNotifies
+pub mod ReceivedAgainAfterGivingBack

@@ -1,0 +1,34 @@
+-- A queue group gets a core back: that core has acknowledged the change and takes from a queue of the group before the
+-- other core has acknowledged.
+use Rattle.std.specs.Prelude.{true, List, [], ◌∷◌, None}
+use Rattle.em_log.specs.declared.entry.What.{What}
+use Rattle.em_log.specs.declared.entry.Body.{Body}
+use Rattle.em_log.specs.declared.entry.Begun.{Begun}
+use Rattle.em_log.specs.declared.entry.Entry.{Entry}
+use Rattle.em_log.specs.Operations.{op_id}
+use Rattle.em_histories.specs.Words.{by, queue, pool, queue_group, handle, event}
+
+abbrev pub history : List Entry
+history =
+    by 0 (What.Enter Body.Boot)
+    ∷ by 0 (What.Alloc (pool 0) (event 65536 1 []))
+    ∷ by 0 (What.Send (handle 65536) (queue 0) None None)
+    ∷ by 0 (What.Alloc (pool 0) (event 65537 2 []))
+    ∷ by 0 (What.Send (handle 65537) (queue 1) None None)
+    ∷ by 0 (What.Begin (op_id 0) (Begun.Modify (queue_group 1) 2) [])
+    ∷ by 0 (What.End 0 None)
+    ∷ by 0 (What.Ack (op_id 0))
+    ∷ by 1 (What.Ack (op_id 0))
+    ∷ by 1 (What.Done (op_id 0) true)
+    ∷ by 1 (What.Take (queue 1) 1 None)
+    ∷ by 1 (What.Start (queue 1) (event 131073 2 []) None)
+    ∷ by 1 (What.Begin (op_id 1) (Begun.Modify (queue_group 1) 3) [])
+    ∷ by 0 (What.Ack (op_id 1))
+    ∷ by 0 (What.Take (queue 0) 1 None)
+    ∷ by 0 (What.Start (queue 0) (event 131072 1 []) None)
+    ∷ by 1 (What.End 1 None)
+    ∷ by 0 (What.Free (handle 131072))
+    ∷ by 0 (What.End 0 None)
+    ∷ by 1 (What.Ack (op_id 1))
+    ∷ by 1 (What.Done (op_id 1) true)
+    ∷ []

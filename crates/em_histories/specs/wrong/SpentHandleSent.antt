@@ -1,0 +1,19 @@
+-- A send accepts the handle that an earlier send spent.
+use Rattle.std.specs.Prelude.{List, [], ◌∷◌, None}
+use Rattle.em_log.specs.declared.entry.What.{What}
+use Rattle.em_log.specs.declared.entry.Body.{Body}
+use Rattle.em_log.specs.declared.entry.Entry.{Entry}
+use Rattle.em_histories.specs.Words.{by, queue, pool, handle, event}
+
+abbrev pub history : List Entry
+history =
+    by 0 (What.Enter Body.Boot)
+    ∷ by 0 (What.Alloc (pool 0) (event 65536 0 []))
+    ∷ by 0 (What.Send (handle 65536) (queue 0) None None)
+    ∷ by 0 (What.Send (handle 65536) (queue 0) None None)
+    ∷ by 0 (What.End 0 None)
+    ∷ by 0 (What.Take (queue 0) 1 None)
+    ∷ by 0 (What.Start (queue 0) (event 131072 0 []) None)
+    ∷ by 0 (What.Free (handle 131072))
+    ∷ by 0 (What.End 0 None)
+    ∷ []

@@ -1,0 +1,3 @@
+pub mod Minted
+pub mod Unchanged
+pub mod Broken

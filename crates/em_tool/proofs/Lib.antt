@@ -1,0 +1,10 @@
+pub mod Ascii
+pub mod Cutting
+pub mod Scripts
+pub mod Splitting
+pub mod NameTests
+pub mod Numbers
+pub mod Orders
+pub mod Numerals
+pub mod Saying
+pub mod FirstText

@@ -1,0 +1,8 @@
+use Rattle.std.proofs.Common.{◌+◌, ◌*◌, ◌-◌}
+use Rattle.em_turn.proofs.tests.+add_in_threads+fn-add_in_threads-join+arg2.Given as goal
+
+abbrev pub decreases-add_in_threads : goal.decreases-add_in_threads
+decreases-add_in_threads g l = 2 * (l.threads - l.next) + 1
+
+abbrev pub decreases-join+arg2 : goal.decreases-join+arg2
+decreases-join+arg2 g l = 2 * (l.threads - l.next)
