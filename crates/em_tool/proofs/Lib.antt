@@ -8,3 +8,7 @@ pub mod Orders
 pub mod Numerals
 pub mod Saying
 pub mod FirstText
+pub mod FirstLegal
+pub mod FirstSteps
+pub mod Going
+pub mod Answering

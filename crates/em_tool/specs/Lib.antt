@@ -6,3 +6,7 @@ pub mod Said
 pub mod Script
 pub mod Spelling
 pub mod Words
+pub mod FirstRun
+pub mod RunState
+pub mod Outcome
+pub mod Headline

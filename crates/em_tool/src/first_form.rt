@@ -1,18 +1,19 @@
 //! The scripts of the first form.
 ghost use Rattle.std.specs.Prelude.{◌≡◌, IfOk, IfSome, Some};
-ghost use Rattle.em_log.specs.declared.graph.Config.{Config};
-ghost use Rattle.em_tool.specs.FirstForm.{IsFirstForm};
+ghost use Rattle.std.specs.Option.{option_map};
+ghost use Rattle.em_tool.specs.Decimal.{AreNumbers};
+ghost use Rattle.em_tool.specs.FirstForm.{First, Fits, lines_of, text_of};
+ghost use Rattle.em_tool.specs.Script.{first_of};
 
-use crate::graph::config_of;
 use crate::parts::parts_of;
-use crate::script::script_of;
-use em_log::{Config, NoMemory};
+use crate::script::{Script, script_of};
+use em_log::NoMemory;
 use std::alloc::Global;
 
-/// The graph of the script, if the bytes are a script of the first form.
-pub fn parse_first_form(alloc: Global, bytes: &[u8]) -> Result<Option<Config>, NoMemory>
-    ensures graph { IfOk result (λ found. IfSome found (IsFirstForm bytes.now)) }
-    ensures exact { (graph : Config) → IsFirstForm bytes.now graph → IfOk result (λ found. found ≡ Some graph) }
+/// The names and numbers of the script, if the bytes are a script of the first form.
+pub fn first_script(alloc: Global, bytes: &[u8]) -> Result<Option<Script<'_>>, NoMemory>
+    ensures spelled { IfOk result (λ found. IfSome found (λ s. Fits (first_of s) × (bytes.now ≡ text_of (lines_of (first_of s))) × AreNumbers s.numbers)) }
+    ensures exact { (f : First) → Fits f → bytes.now ≡ text_of (lines_of f) → IfOk result (λ found. option_map first_of found ≡ Some f) }
 {
     let Ok(text) = str::from_utf8(bytes) else {
         return Ok(None);
@@ -20,9 +21,5 @@ pub fn parse_first_form(alloc: Global, bytes: &[u8]) -> Result<Option<Config>, N
     let Some(parts) = parts_of(text) else {
         return Ok(None);
     };
-    let Some(script) = script_of(alloc, &parts)? else {
-        return Ok(None);
-    };
-    let config = config_of(alloc, &script)?;
-    Ok(Some(config))
+    script_of(alloc, &parts)
 }

@@ -1,4 +1,4 @@
-//! The commands of the event machine: the words of a command, and the scripts that are read so far.
+//! The commands of the event machine.
 #![tactic(auto)]
 
 mod decimal;
@@ -6,12 +6,17 @@ mod fields;
 pub mod first_form;
 mod graph;
 mod names;
+pub mod outcome;
 mod parts;
+pub mod plain;
+pub mod run;
 pub mod said;
 pub mod script;
+mod solo;
 pub mod words;
 
-pub use first_form::parse_first_form;
+pub use em_log::{CoreId, Gate, NoGate, QueueId};
+pub use plain::em_plain;
 pub use words::{Solo, command};
 
 #[cfg(test)]

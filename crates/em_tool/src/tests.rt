@@ -1,4 +1,7 @@
-use crate::{command, parse_first_form};
+use crate::first_form::first_script;
+use crate::{NoGate, command, em_plain};
+use em_io::{SureSink, SureSource};
+use std::alloc::Global;
 use std::test::Fail;
 
 #[test]
@@ -49,8 +52,54 @@ fn scripts_of_the_first_form_are_read(rt: HostRuntime) -> Result<(), Fail> {
         ("cores 1", "cores 2", false),
     ] {
         let script = ONE_EVENT.replace(alloc, from, to)?;
-        let found = parse_first_form(alloc, script.as_bytes())?;
+        let found = first_script(alloc, script.as_bytes())?;
         assert_eq!(rt; found.is_some(), read, "{to}");
     }
+    Ok(())
+}
+
+/// What `em_plain` answers and writes.
+fn plain(alloc: Global, words: &str, script: Vec<u8>) -> Result<(u8, SureSink), Fail> {
+    let mut list = Vec::new(alloc);
+    for word in words.split_whitespace() {
+        list.push(word.to_string(alloc)?)?;
+    }
+    let mut source = SureSource::new(script);
+    let mut sink = SureSink::new(alloc);
+    let status = em_plain(alloc, list.as_slice(), &mut source, &mut sink, &NoGate);
+    Ok((status, sink))
+}
+
+const ONE_TRACE: &str =
+    "trace 1\n0 c0 enter boot\n1 c0 alloc p0 65536 kind 7 words 1 5\n2 c0 send 65536 q0\n3 c0 end lost 0\n4 c0 take q0 1\n5 c0 start q0 131072 kind 7 words 1 5\n6 c0 say 5\n7 c0 free 131072\n8 c0 end lost 0\nquiet\n";
+
+#[test]
+fn commands_write_what_is_due(rt: HostRuntime) -> Result<(), Fail> {
+    let alloc = rt.alloc();
+    for (words, script, status, text) in [
+        ("solo 10 1 0", ONE_EVENT, 0, ONE_TRACE),
+        ("solo 1 1 0", ONE_EVENT, 0, ONE_TRACE),
+        ("solo 10 1 0", "", 4, "refused line 1 rule 12\n"),
+        ("solo 10 1", ONE_EVENT, 2, "words not known\n"),
+        ("solo 0 1 0", ONE_EVENT, 2, "words not known\n"),
+        ("solo 10 1 0,0", ONE_EVENT, 2, "words not known\n"),
+        ("solo 010 1 0", ONE_EVENT, 2, "words not known\n"),
+        ("-h", ONE_EVENT, 2, "words not known\n"),
+        ("", ONE_EVENT, 2, "words not known\n"),
+    ] {
+        let script = Vec::from_slice(alloc, script.as_bytes())?;
+        let (answer, sink) = plain(alloc, words, script)?;
+        assert_eq!(rt; answer, status, "{words}");
+        assert_eq!(rt; sink.bytes(), text.as_bytes(), "{words}");
+    }
+    Ok(())
+}
+
+#[test]
+fn a_long_input_is_told(rt: HostRuntime) -> Result<(), Fail> {
+    let alloc = rt.alloc();
+    let (answer, sink) = plain(alloc, "solo 10 1 0", vec![in alloc; b'#'; 65537]?)?;
+    assert_eq!(rt; answer, 6);
+    assert_eq!(rt; sink.bytes(), b"input too long\n".as_slice());
     Ok(())
 }
