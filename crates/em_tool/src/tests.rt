@@ -1,6 +1,6 @@
 use crate::first_form::first_script;
 use crate::{NoGate, command, em_plain};
-use em_io::{SureSink, SureSource};
+use em_io::{MemSink, MemSource, Sink, Source, SureSink, SureSource};
 use std::alloc::Global;
 use std::test::Fail;
 
@@ -58,16 +58,18 @@ fn scripts_of_the_first_form_are_read(rt: HostRuntime) -> Result<(), Fail> {
     Ok(())
 }
 
-/// What `em_plain` answers and writes.
-fn plain(alloc: Global, words: &str, script: Vec<u8>) -> Result<(u8, SureSink), Fail> {
+/// What `em_plain` answers.
+fn plain<S: Source, K: Sink>(
+    alloc: Global,
+    words: &str,
+    source: &mut S,
+    sink: &mut K,
+) -> Result<u8, Fail> {
     let mut list = Vec::new(alloc);
     for word in words.split_whitespace() {
         list.push(word.to_string(alloc)?)?;
     }
-    let mut source = SureSource::new(script);
-    let mut sink = SureSink::new(alloc);
-    let status = em_plain(alloc, list.as_slice(), &mut source, &mut sink, &NoGate);
-    Ok((status, sink))
+    Ok(em_plain(alloc, list.as_slice(), source, sink, &NoGate))
 }
 
 const ONE_TRACE: &str =
@@ -87,8 +89,9 @@ fn commands_write_what_is_due(rt: HostRuntime) -> Result<(), Fail> {
         ("-h", ONE_EVENT, 2, "words not known\n"),
         ("", ONE_EVENT, 2, "words not known\n"),
     ] {
-        let script = Vec::from_slice(alloc, script.as_bytes())?;
-        let (answer, sink) = plain(alloc, words, script)?;
+        let mut source = SureSource::new(script.as_bytes().to_vec(alloc)?);
+        let mut sink = SureSink::new(alloc);
+        let answer = plain(alloc, words, &mut source, &mut sink)?;
         assert_eq!(rt; answer, status, "{words}");
         assert_eq!(rt; sink.bytes(), text.as_bytes(), "{words}");
     }
@@ -98,8 +101,40 @@ fn commands_write_what_is_due(rt: HostRuntime) -> Result<(), Fail> {
 #[test]
 fn a_long_input_is_told(rt: HostRuntime) -> Result<(), Fail> {
     let alloc = rt.alloc();
-    let (answer, sink) = plain(alloc, "solo 10 1 0", vec![in alloc; b'#'; 65537]?)?;
+    let mut source = SureSource::new(vec![in alloc; b'#'; 65537]?);
+    let mut sink = SureSink::new(alloc);
+    let answer = plain(alloc, "solo 10 1 0", &mut source, &mut sink)?;
     assert_eq!(rt; answer, 6);
     assert_eq!(rt; sink.bytes(), b"input too long\n".as_slice());
+    Ok(())
+}
+
+#[test]
+fn a_failed_write_leaves_the_first_lines(rt: HostRuntime) -> Result<(), Fail> {
+    let alloc = rt.alloc();
+    let mut first = Vec::new(alloc);
+    for (call, line) in (0..64).zip(ONE_TRACE.lines()) {
+        let mut source = SureSource::new(ONE_EVENT.as_bytes().to_vec(alloc)?);
+        let mut sink = MemSink::new(alloc, vec![in alloc; call]?);
+        let answer = plain(alloc, "solo 10 1 0", &mut source, &mut sink)?;
+        assert_eq!(rt; answer, 1, "{call}");
+        assert_eq!(rt; sink.bytes(), first.as_slice(), "{call}");
+        first.extend_from_slice(line.as_bytes())?;
+        first.push(b'\n')?;
+    }
+    Ok(())
+}
+
+#[test]
+fn a_failed_read_is_told(rt: HostRuntime) -> Result<(), Fail> {
+    let alloc = rt.alloc();
+    for call in [0, 1] {
+        let script = ONE_EVENT.as_bytes().to_vec(alloc)?;
+        let mut source = MemSource::new(script, vec![in alloc; call]?);
+        let mut sink = SureSink::new(alloc);
+        let answer = plain(alloc, "solo 10 1 0", &mut source, &mut sink)?;
+        assert_eq!(rt; answer, 5, "{call}");
+        assert_eq!(rt; sink.bytes(), b"read failed\n".as_slice(), "{call}");
+    }
     Ok(())
 }
