@@ -6,12 +6,15 @@ use Rattle.em_log.specs.declared.entry.What.{What}
 use Rattle.em_log.specs.declared.entry.Body.{Body}
 use Rattle.em_log.specs.declared.ids.Limits.{Limits}
 use Rattle.em_log.specs.declared.ids.OpId.{OpId}
+use Rattle.em_log.specs.declared.entry.Begun.{Begun}
+use Rattle.em_log.specs.declared.ids.Note.{Note}
 use Rattle.em_log.specs.History.{Past}
 use Rattle.em_log.specs.Contexts.{context}
-use Rattle.em_log.specs.Operations.{step}
+use Rattle.em_log.specs.Operations.{step, pending}
+use Rattle.em_log.specs.Leads.{aims_at_group}
 use Rattle.em_log.specs.Lawful.{AllAllowed, Begins, Boots, Steps, Takes, Starts, Untakes, Asks, IsNext, due}
 use Rattle.em_log.proofs.Asked.{asks-open}
-use Rattle.em_log.proofs.Moments.{Moment, allowed-moment, AckMoment, AckChange, AckStart, AckStop, EnterMoment, EntersBoot, EntersStep}
+use Rattle.em_log.proofs.Moments.{Moment, allowed-moment, AckMoment, AckChange, AckStart, AckStop, EnterMoment, EntersBoot, EntersStep, JobMoment, StartJob, StopJob, ModifyJob}
 
 -- the newest entry of this history, as the definitions let it come, and the facts of its moment
 
@@ -89,10 +92,34 @@ no-acknowledgement k past c op began opened other (AckChange between _ _) = none
 no-acknowledgement k past c op began opened other (AckStart _ _ _ e _) = false-true (sym other ∙ ap ends_last e)
 no-acknowledgement k past c op began opened other (AckStop _ _ _ e _) = false-true (sym other ∙ ap ends_last e)
 
+-- a queue group that has a pending change takes no other
+
+abbrev is_change : Begun → Bool
+is_change (Begun.Modify g m) = true
+is_change b = false
+
+abbrev group_changed : Begun → ℕ
+group_changed (Begun.Modify g m) = g.0
+group_changed b = 0
+
+pub no-change : (k : Declarations) (past : Past) (c g m : ℕ) (notes : List Note) (op : ℕ)
+    → pending past (aims_at_group g) ≡ Some op → JobMoment k past c (Begun.Modify (record { 0 = g }) m) notes → ⊥
+no-change k past c g m notes op busy (StartJob x _ job _ _) = false-true (sym (ap is_change job))
+no-change k past c g m notes op busy (StopJob x _ job _ _) = false-true (sym (ap is_change job))
+no-change k past c g m notes op busy (ModifyJob g2 m2 _ job idle _) =
+    some-none (sym busy ∙ ap (λ b. pending past (aims_at_group (group_changed b))) job ∙ idle)
+
 -- what is due is due
 
 pub nothing-due : {e : Entry} {es : List Entry} → e ∷ es ≡ [] → ⊥
 nothing-due same = grind (arith, same)
+
+-- boot comes first
+
+pub no-second-boot : (k : Declarations) (e : Entry) (past : Past) (c : ℕ) (b : Body) → step k (e ∷ past) c ≡ None
+    → EnterMoment k (e ∷ past) c b → ⊥
+no-second-boot k e past c b owed (EntersBoot none _ _) = nothing-due none
+no-second-boot k e past c b owed (EntersStep _ owes _) = none-some owed owes
 
 -- what entries show, to tell them apart
 
@@ -113,3 +140,10 @@ value_said w = 0
 
 abbrev pub handle_shown : Entry → ℕ
 handle_shown e = handle_of_start e.what
+
+abbrev ok_of_done : What → Bool
+ok_of_done (What.GlobalDone op ok) = ok
+ok_of_done w = false
+
+abbrev pub ok_shown : Entry → Bool
+ok_shown e = ok_of_done e.what

@@ -80,6 +80,23 @@ ghost use Rattle.em_histories.specs.wrong.MoreReceivesThanTheLimit as more_recei
 ghost use Rattle.em_histories.specs.wrong.NotifiedTwice as notified_twice;
 ghost use Rattle.em_histories.specs.wrong.AbortedApplicationNotifies as aborted_application_notifies;
 ghost use Rattle.em_histories.specs.wrong.ReceivedAgainAfterGivingBack as received_again_after_giving_back;
+ghost use Rattle.em_histories.specs.wrong.LargerBurstTaken as larger_burst_taken;
+ghost use Rattle.em_histories.specs.wrong.ChangedWhileAChangeIsPending as changed_while_a_change_is_pending;
+ghost use Rattle.em_histories.specs.wrong.TakenBeforeTheEarlyEnd as taken_before_the_early_end;
+ghost use Rattle.em_histories.specs.wrong.AppliedWhileBusy as applied_while_busy;
+ghost use Rattle.em_histories.specs.wrong.NotifiedBeforeTheLastEnd as notified_before_the_last_end;
+ghost use Rattle.em_histories.specs.wrong.HandleOfAnotherCoreFreed as handle_of_another_core_freed;
+ghost use Rattle.em_histories.specs.wrong.KeptEventNotFound as kept_event_not_found;
+ghost use Rattle.em_histories.specs.wrong.LocalEventTakenElsewhere as local_event_taken_elsewhere;
+ghost use Rattle.em_histories.specs.wrong.TakenFromAStoppedObject as taken_from_a_stopped_object;
+ghost use Rattle.em_histories.specs.wrong.EventTakenTwice as event_taken_twice;
+ghost use Rattle.em_histories.specs.wrong.AllocatedFromAnEmptyPool as allocated_from_an_empty_pool;
+ghost use Rattle.em_histories.specs.wrong.BootedTwice as booted_twice;
+ghost use Rattle.em_histories.specs.wrong.OrderEndedAgain as order_ended_again;
+ghost use Rattle.em_histories.specs.wrong.FailedStartTakenForGood as failed_start_taken_for_good;
+ghost use Rattle.em_histories.specs.wrong.NoteReceivedByItsStoppedObject as note_received_by_its_stopped_object;
+ghost use Rattle.em_histories.specs.wrong.DequeuedTwice as dequeued_twice;
+ghost use Rattle.em_histories.specs.wrong.UnknownHandleFreed as unknown_handle_freed;
 ghost use Rattle.em_histories.specs.wrong.AnotherValueSaid as another_value_said;
 ghost use Rattle.em_histories.specs.wrong.BodyCutShort as body_cut_short;
 ghost use Rattle.em_histories.specs.wrong.ErrorBodySkipped as error_body_skipped;
@@ -175,6 +192,23 @@ pub fn wrong_histories()
     ensures notified_twice { IsWrongAt 21 notified_twice.run }
     ensures aborted_application_notifies { IsWrongAt 15 aborted_application_notifies.run }
     ensures received_again_after_giving_back { IsWrongAt 29 received_again_after_giving_back.run }
+    ensures larger_burst_taken { IsWrongAt 8 larger_burst_taken.run }
+    ensures changed_while_a_change_is_pending { IsWrongAt 2 changed_while_a_change_is_pending.run }
+    ensures taken_before_the_early_end { IsWrongAt 8 taken_before_the_early_end.run }
+    ensures applied_while_busy { IsWrongAt 14 applied_while_busy.run }
+    ensures notified_before_the_last_end { IsWrongAt 14 notified_before_the_last_end.run }
+    ensures handle_of_another_core_freed { IsWrongAt 11 handle_of_another_core_freed.run }
+    ensures kept_event_not_found { IsWrongAt 7 kept_event_not_found.run }
+    ensures local_event_taken_elsewhere { IsWrongAt 4 local_event_taken_elsewhere.run }
+    ensures taken_from_a_stopped_object { IsWrongAt 19 taken_from_a_stopped_object.run }
+    ensures event_taken_twice { IsWrongAt 9 event_taken_twice.run }
+    ensures allocated_from_an_empty_pool { IsWrongAt 2 allocated_from_an_empty_pool.run }
+    ensures booted_twice { IsWrongAt 2 booted_twice.run }
+    ensures order_ended_again { IsWrongAt 9 order_ended_again.run }
+    ensures failed_start_taken_for_good { IsWrongAt 7 failed_start_taken_for_good.run }
+    ensures note_received_by_its_stopped_object { IsWrongAt 11 note_received_by_its_stopped_object.run }
+    ensures dequeued_twice { IsWrongAt 4 dequeued_twice.run }
+    ensures unknown_handle_freed { IsWrongAt 8 unknown_handle_freed.run }
 {}
 
 /// These are lawful, but in each a context does not follow its body, so they are not legal.

@@ -1,0 +1,25 @@
+-- A core takes from a queue whose one event was received.
+use Rattle.std.specs.Prelude.{List, [], ◌∷◌, None}
+use Rattle.em_log.specs.declared.entry.What.{What}
+use Rattle.em_log.specs.declared.entry.Body.{Body}
+use Rattle.em_log.specs.declared.entry.Entry.{Entry}
+use Rattle.em_histories.specs.Words.{by, queue, pool, handle, event}
+use Rattle.em_histories.specs.Runs.{Run}
+use Rattle.em_histories.specs.worked.OneEvent.{graph, limits}
+
+abbrev pub history : List Entry
+history =
+    by 0 (What.Enter Body.Boot)
+    ∷ by 0 (What.Alloc (pool 0) (event 65536 7 (5 ∷ [])))
+    ∷ by 0 (What.Send (handle 65536) (queue 0) None None)
+    ∷ by 0 (What.End 0 None)
+    ∷ by 0 (What.Take (queue 0) 1 None)
+    ∷ by 0 (What.Start (queue 0) (event 131072 7 (5 ∷ [])) None)
+    ∷ by 0 (What.Say 5)
+    ∷ by 0 (What.Free (handle 131072))
+    ∷ by 0 (What.End 0 None)
+    ∷ by 0 (What.Take (queue 0) 1 None)
+    ∷ []
+
+abbrev pub run : Run
+run = record { graph = graph; limits = limits; history = history }
