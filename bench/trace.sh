@@ -1,6 +1,6 @@
 #!/bin/sh
 # Entries per second, written into memory and read back, for 100,000 entries as histories of 1,000, 10,000 and 100,000: the
-# best of some runs. The cost of an entry does not grow with the length of its history.
+# best of some runs. docs/DECISIONS.md says what such numbers show and what they do not.
 cd "$(dirname "$0")/../crates/trace_bench" || exit 1
 log=$(mktemp)
 rt run > "$log" 2>&1 || { cat "$log"; exit 1; }
