@@ -21,6 +21,7 @@ pub mod Legal
 pub mod Allowance
 pub mod LocalEntries
 pub mod Answers
+pub mod Works
 pub mod Laws
 pub mod Names
 pub mod Weights

@@ -13,6 +13,7 @@ pub mod list;
 pub mod lists;
 pub mod mask;
 pub mod shapes;
+pub mod work;
 
 pub use ask::{Answer, Ask, Context, Receive, Reply};
 pub use body::{Block, Expr, Stmt};
@@ -31,3 +32,4 @@ pub use list::List;
 pub use lists::{Notes, Words};
 pub use mask::{CoreMask, mask_of};
 pub use shapes::declare;
+pub use work::{Move, Work};
