@@ -1,0 +1,4 @@
+pub mod Pieces
+pub mod Spent
+pub mod Stands
+pub mod Steps
