@@ -1,5 +1,5 @@
 -- The handles that an answered ask spends.
-use Rattle.std.specs.Prelude.{ℕ, ◌≡◌, ◌+◌, ◌-◌, true, false, List, [], ◌∷◌}
+use Rattle.std.specs.Prelude.{ℕ, ◌≡◌, ◌<◌, ◌+◌, ◌-◌, ◌^◌, true, false, List, [], ◌∷◌}
 use Rattle.em_log.specs.declared.ask.Answer.{Answer}
 use Rattle.em_log.specs.declared.ask.Ask.{Ask}
 use Rattle.em_log.specs.declared.ask.Context.{Context}
@@ -31,12 +31,26 @@ abbrev pub AreAmong : List ℕ → List ℕ → Type 0
 AreAmong [] held = Unit {0}
 AreAmong (n ∷ ns) held = (has held n ≡ true) × AreAmong ns held
 
+-- none of the first is among the second
+abbrev pub AreNew : List ℕ → List ℕ → Type 0
+AreNew [] held = Unit {0}
+AreNew (n ∷ ns) held = (has held n ≡ false) × AreNew ns held
+
+-- each of them is a word of 64 bits
+abbrev pub AreWords : List ℕ → Type 0
+AreWords handles = (h : ℕ) → has handles h ≡ true → h < 2 ^ 64
+
 -- how many are held
 
 -- the handle of the event that a context receives
 abbrev pub handles_in : Context → List ℕ
 handles_in (Context.Receive r) = r.event.handle.0 ∷ []
 handles_in k = []
+
+-- the handle of the event that an answer gives
+abbrev pub minted : Answer → List ℕ
+minted (Answer.Minted e) = e.handle.0 ∷ []
+minted x = []
 
 abbrev pub IsMinted : Answer → Type 0
 IsMinted (Answer.Minted e) = Unit {0}

@@ -1,5 +1,5 @@
 -- The list of its core's entries that a run stands for.
-use Rattle.std.specs.Prelude.{ℕ, ◌≡◌, ◌<◌, ◌^◌, Bool, true, not, List, [], ◌∷◌, length, Option, Some, None, IsTrue}
+use Rattle.std.specs.Prelude.{ℕ, ◌≡◌, Bool, true, not, List, [], ◌∷◌, length, Option, Some, None, IsTrue}
 use Rattle.std.specs.Option.{option_map}
 use Rattle.em_log.specs.declared.ask.Answer.{Answer}
 use Rattle.em_log.specs.declared.ask.Ask.{Ask}
@@ -9,12 +9,11 @@ use Rattle.em_log.specs.declared.work.Move.{Move}
 use Rattle.em_log.specs.declared.work.Work.{Ghosts}
 use Rattle.em_log.specs.Contexts.{context}
 use Rattle.em_log.specs.Handles.{held}
-use Rattle.em_log.specs.History.{has}
 use Rattle.em_log.specs.Works.{Exchange, Reached, is_end}
 use Rattle.em_core.specs.declared.core_run.CoreRun.{CoreRun}
 use Rattle.em_core.specs.declared.core_run.Stage.{Stage}
 use Rattle.em_core.specs.Pieces.{Piece, begun_by, history, ArePieces, open_context, exchanges}
-use Rattle.em_core.specs.Spent.{words_in, Distinct}
+use Rattle.em_core.specs.Spent.{words_in, Distinct, AreWords}
 use Rattle.em_core.specs.Steps.{unreplied, AreHandles}
 
 
@@ -32,7 +31,7 @@ words_of (Some a) = words_in a
 pub record AreCounted (n : ℕ) (handles : List ℕ) : Type 0 where
   pub count : n ≡ length handles
   pub distinct : Distinct handles
-  pub words : (h : ℕ) → has handles h ≡ true → h < 2 ^ 64
+  pub words : AreWords handles
 
 module _ {W : Type 0} (k : Ghosts W) where
   -- the work is in this state after these exchanges of a context

@@ -8,13 +8,12 @@ use Rattle.em_log.specs.declared.ids.EndKind.{EndKind}
 use Rattle.em_log.specs.declared.entry.What.{What}
 use Rattle.em_log.specs.declared.work.Move.{Move}
 use Rattle.em_log.specs.declared.work.Work.{Ghosts}
-use Rattle.em_log.specs.History.{has}
 use Rattle.em_log.specs.Works.{fits}
 use Rattle.em_core.specs.declared.core_run.CoreRun.{CoreRun}
 use Rattle.em_core.specs.declared.core_run.Stage.{Stage}
 use Rattle.em_core.specs.declared.core_run.Step.{Step}
 use Rattle.em_core.specs.Pieces.{Piece, HasNoRest, AllFollow, IsLead}
-use Rattle.em_core.specs.Spent.{spent, Distinct, AreAmong}
+use Rattle.em_core.specs.Spent.{spent, minted, Distinct, AreAmong, AreNew}
 
 -- where a run stands
 
@@ -74,15 +73,11 @@ abbrev pub spent_by : Option Step → Answer → List ℕ
 spent_by (Some (Step.Ask a)) x = spent a x
 spent_by _ x = []
 
-abbrev pub IsNewTo : List ℕ → Answer → Type 0
-IsNewTo held (Answer.Minted e) = has held e.handle.0 ≡ false
-IsNewTo held _ = Unit {0}
-
 -- the words that are spent are different handles that the context holds, and what is minted is none of these
 pub record AreHandles (held : List ℕ) (step : Option Step) (x : Answer) : Type 0 where
   pub different : Distinct (spent_by step x)
   pub among : AreAmong (spent_by step x) held
-  pub new : IsNewTo held x
+  pub new : AreNew (minted x) held
 
 -- what a reply adds to the list of a core
 abbrev pub GrowsByTake : Answer → List Piece → List Piece → Type 0

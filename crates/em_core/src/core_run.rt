@@ -1,6 +1,6 @@
 //! The run of one core.
 ghost use Rattle.std.specs.Prelude.{◌≡◌, ◌<◌, ◌≤◌, ◌^◌, length};
-ghost use Rattle.em_core.specs.Spent.{words_in as the_words_in, handles_in, IsMinted, IsDone, count_after};
+ghost use Rattle.em_core.specs.Spent.{words_in as the_words_in, handles_in, minted, AreWords, IsMinted, IsDone, count_after};
 
 use em_log::{
     Answer, Ask, Cells, Context, CoreId, EndKind, Locals, Move, Reply, Work,
@@ -51,10 +51,15 @@ fn words_in(ask: &Ask) -> u8
 
 /// How many handles a context holds at first: that of the event that it receives.
 fn opening_handles(context: &Context) -> u128
-    ensures { result ≡ length (handles_in context.now) }
+    ensures count { result ≡ length (handles_in context.now) }
+    ensures words { AreWords (handles_in context.now) }
 {
     match context {
-        Context::Receive(_) => 1,
+        Context::Receive(receive) => {
+            // Read here, so that it is known to be a word.
+            let _handle = receive.event.handle.0;
+            1
+        }
         _ => 0,
     }
 }
@@ -63,10 +68,15 @@ fn opening_handles(context: &Context) -> u128
 fn held_after(held: u128, words: u8, answer: &Answer) -> u128
     requires minted { IsMinted answer.now → held < 2 ^ 65 }
     requires done { IsDone answer.now → words ≤ held }
-    ensures { result ≡ count_after held words answer.now }
+    ensures count { result ≡ count_after held words answer.now }
+    ensures words { AreWords (minted answer.now) }
 {
     match answer {
-        Answer::Minted(_) => held + 1,
+        Answer::Minted(event) => {
+            // Read here, so that it is known to be a word.
+            let _handle = event.handle.0;
+            held + 1
+        }
         Answer::Done => held - u128::from(words),
         _ => held,
     }

@@ -1,0 +1,4 @@
+pub mod Handles
+pub mod Leads
+pub mod Histories
+pub mod Standing
