@@ -1,4 +1,5 @@
 pub mod Handles
 pub mod Leads
 pub mod Histories
+pub mod Replies
 pub mod Standing

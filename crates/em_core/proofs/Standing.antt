@@ -87,12 +87,8 @@ asked-no_end Move.End mid = refl
 asked-no_end (Move.Ask (Ask.End cells)) mid = absurd cc
 asked-no_end (Move.Ask a) mid = refl
 
-end-done : (cells : Option Cells) (x : Answer) → IsTrue (fits (Ask.End cells) x) → x ≡ Answer.Done
-end-done cells Answer.Done is = refl
-end-done cells x is = absurd cc
-
 module _ {W : Type 0} (k : Ghosts W) where
-  abbrev run_with : CoreRun W → W → Stage → ℕ → CoreRun W
+  abbrev pub run_with : CoreRun W → W → Stage → ℕ → CoreRun W
   run_with run now stage n = record { core = run.core; work = now; stage = stage; held = n; locals = run.locals }
 
   ends-mid : (f : k.Fixed) (current : Option Context) (es : List Exchange) (a : Ask) → is_end a ≡ false → EndsSo k f current es a
@@ -118,7 +114,7 @@ module _ {W : Type 0} (k : Ghosts W) where
       }
 
   -- the open context of a run at this stage
-  at-open : (run : CoreRun W) (c : ℕ) (f : k.Fixed) (m : List Piece) (n : ℕ) → run.stage ≡ Stage.Open n → Stands k run c f m
+  pub at-open : (run : CoreRun W) (c : ℕ) (f : k.Fixed) (m : List Piece) (n : ℕ) → run.stage ≡ Stage.Open n → Stands k run c f m
       → IsAt k f (open_context m) (exchanges m) (k.state run.work) n
   at-open run c f m n is stands =
       subst (λ (g : Stage). IsAtStage k f (open_context m) (exchanges m) (k.state run.work) g) is stands.stage

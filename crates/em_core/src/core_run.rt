@@ -176,10 +176,11 @@ impl<W: Work> CoreRun<W> {
         match self.stage {
             Stage::Taking => self.took(&reply.answer),
             Stage::Open(words) => self.answered(words, &reply.answer),
-            _ => {
+            Stage::Ending(_) => {
                 self.held = 0;
                 self.stage = Stage::Between;
             }
+            _ => {}
         }
     }
 
