@@ -1,5 +1,5 @@
 -- The entries of a core, with one more piece: its open context, and the handles that this holds.
-use Rattle.std.proofs.Common.{◌≡◌, ℕ, ◌==◌, Bool, true, false, List, [], ◌∷◌, ◌++◌, Option, Some, None, refl, sym, ap, ◌∙◌, if◌then◌else◌}
+use Rattle.std.proofs.Common.{◌≡◌, ℕ, ◌==◌, List, [], ◌∷◌, Option, Some, None, refl, ◌∙◌, if◌then◌else◌}
 use Rattle.std.specs.Prelude.{IsTrue}
 use Rattle.em_log.specs.declared.ask.Answer.{Answer}
 use Rattle.em_log.specs.declared.ask.Ask.{Ask}
@@ -7,14 +7,13 @@ use Rattle.em_log.specs.declared.ask.Context.{Context}
 use Rattle.em_log.specs.declared.entry.What.{What}
 use Rattle.em_log.specs.declared.ids.Cells.{Cells}
 use Rattle.em_log.specs.declared.ids.OpId.{OpId}
-use Rattle.em_log.specs.History.{Past, names, minted_in, without_all, entry_by, entries_by, onto}
+use Rattle.em_log.specs.History.{Past, names, without_all, entry_by, entries_by, onto}
 use Rattle.em_log.specs.Contexts.{context, context_after}
 use Rattle.em_log.specs.Handles.{held, held_after, with_minted}
-use Rattle.em_log.specs.Works.{is_end}
 use Rattle.em_core.specs.Pieces.{Piece, IsLead, AllFollow, follows, begun_by, history}
 use Rattle.em_core.specs.Spent.{spent, handles_in}
 use Rattle.em_core.proofs.Handles.{same_number}
-use Rattle.em_core.proofs.Leads.{Shows, event_in, lead-shows, lead-ends}
+use Rattle.em_core.proofs.Leads.{Shows, event_in, lead-ends}
 
 -- one entry
 

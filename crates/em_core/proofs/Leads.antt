@@ -1,6 +1,5 @@
 -- What an answer shows of the entry that an ask gives.
-use Rattle.std.proofs.Common.{◌≡◌, ℕ, Bool, true, false, List, [], ◌∷◌, length, Option, Some, None, refl, sym, ap, ◌∙◌, subst}
-use Rattle.std.specs.Prelude.{IsTrue}
+use Rattle.std.proofs.Common.{◌≡◌, ℕ, false, List, length, Option, Some, None, refl, sym, subst}
 use Rattle.em_log.specs.declared.declarations.Declarations.{Declarations}
 use Rattle.em_log.specs.declared.ask.Answer.{Answer}
 use Rattle.em_log.specs.declared.ask.Ask.{Ask}
@@ -14,8 +13,8 @@ use Rattle.em_log.specs.History.{Past, names, minted_in}
 use Rattle.em_log.specs.Contexts.{context_after}
 use Rattle.em_log.specs.Handles.{held, held_after, with_minted}
 use Rattle.em_log.specs.Places.{waiting}
-use Rattle.em_log.specs.Leads.{lead, own, refusal, refused_or, call_of, claimed, dequeued}
-use Rattle.em_log.specs.Answers.{answer_of, minted_answer}
+use Rattle.em_log.specs.Leads.{own, refusal, refused_or, call_of, claimed, dequeued}
+use Rattle.em_log.specs.Answers.{answer_of}
 use Rattle.em_log.specs.Works.{is_end}
 use Rattle.em_core.specs.Pieces.{IsLead}
 use Rattle.em_core.specs.Spent.{spent}

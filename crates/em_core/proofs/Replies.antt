@@ -1,5 +1,5 @@
 -- Which step has no reply yet at a stage, and the replies that fit it.
-use Rattle.std.proofs.Common.{◌≡◌, ◌⊎◌, inl, inr, ℕ, ◌≤◌, Bool, true, false, List, length, Option, Some, None, refl, sym, ap, ◌∙◌, subst, arith}
+use Rattle.std.proofs.Common.{◌≡◌, ◌⊎◌, inl, inr, ℕ, ◌≤◌, true, List, length, Option, Some, None, refl, sym, subst, arith}
 use Rattle.std.specs.Prelude.{IsTrue}
 use Rattle.std.specs.Option.{option_map}
 use Rattle.em_log.specs.declared.ask.Answer.{Answer}
@@ -11,7 +11,7 @@ use Rattle.em_log.specs.Works.{fits}
 use Rattle.em_core.specs.declared.core_run.Stage.{Stage}
 use Rattle.em_core.specs.declared.core_run.Step.{Step}
 use Rattle.em_core.specs.Spent.{IsDone}
-use Rattle.em_core.specs.Steps.{is_open, unreplied_at, FitsStep, fits_take, AreHandles}
+use Rattle.em_core.specs.Steps.{is_open_at, unreplied_at, FitsStep, fits_take, AreHandles}
 use Rattle.em_core.specs.Stands.{AreCounted, words_of}
 use Rattle.em_core.proofs.Handles.{length-without_all}
 
@@ -25,7 +25,7 @@ unasked : (u : Option Ask) → option_map Step.Ask u ≡ None → u ≡ None
 unasked None none = refl
 unasked (Some a) none = absurd cc
 
-pub open-free : (u : Option Ask) (stage : Stage) → is_open stage ≡ true → unreplied_at u stage ≡ None → IsFree u stage
+pub open-free : (u : Option Ask) (stage : Stage) → is_open_at stage ≡ true → unreplied_at u stage ≡ None → IsFree u stage
 open-free u (Stage.Open n) is none = record { words = n; is = refl; answered = unasked u none }
 open-free u (Stage.Ending cells) is none = absurd cc
 open-free u stage is none = absurd cc

@@ -1,11 +1,10 @@
 -- What a run stands for after each of its calls.
-use Rattle.std.proofs.Common.{◌≡◌, ℕ, suc, ◌+◌, ◌-◌, ◌<◌, ◌≤◌, ◌^◌, Bool, true, false, not, List, [], ◌∷◌, ◌++◌, length, length-append, Option, Some, None, refl, sym, ap, ◌∙◌, subst, arith}
+use Rattle.std.proofs.Common.{◌≡◌, ℕ, ◌+◌, ◌-◌, ◌<◌, ◌^◌, false, List, [], ◌∷◌, ◌++◌, length, length-append, Option, Some, None, refl, sym, ap, ◌∙◌, subst, arith}
 use Rattle.std.specs.Prelude.{IsTrue}
 use Rattle.std.specs.Option.{option_map}
 use Rattle.em_log.specs.declared.ask.Answer.{Answer}
 use Rattle.em_log.specs.declared.ask.Ask.{Ask}
 use Rattle.em_log.specs.declared.ask.Context.{Context}
-use Rattle.em_log.specs.declared.entry.Event.{Event}
 use Rattle.em_log.specs.declared.entry.What.{What}
 use Rattle.em_log.specs.declared.ids.Cells.{Cells}
 use Rattle.em_log.specs.declared.ids.OpId.{OpId}
@@ -14,16 +13,16 @@ use Rattle.em_log.specs.declared.work.Work.{Ghosts}
 use Rattle.em_log.specs.Contexts.{context}
 use Rattle.em_log.specs.Handles.{held, with_minted}
 use Rattle.em_log.specs.History.{has, without_all}
-use Rattle.em_log.specs.Works.{Exchange, Reached, Begun, Silent, Asked, Answered, asked, asks_no_end, is_end, fits, Fits}
+use Rattle.em_log.specs.Works.{Exchange, Begun, Silent, Asked, Answered, asked, asks_no_end, is_end, fits, Fits}
 use Rattle.em_core.specs.declared.core_run.CoreRun.{CoreRun}
 use Rattle.em_core.specs.declared.core_run.Stage.{Stage}
 use Rattle.em_core.specs.declared.core_run.Step.{Step}
-use Rattle.em_core.specs.Pieces.{Piece, HasNoRest, IsLead, AllFollow, begun_by, history, open_context, open_after, exchanges}
+use Rattle.em_core.specs.Pieces.{Piece, HasNoRest, begun_by, history, open_context, open_after, exchanges}
 use Rattle.em_core.specs.Spent.{words_in, spent, minted, handles_in, count_after, Distinct, AreAmong, AreNew, AreWords}
 use Rattle.em_core.specs.Steps.{AreHandles, GrowsByTake, GrowsByAsk}
-use Rattle.em_core.specs.Stands.{Stands, AreCounted, IsAt, IsOver, IsAtStage, EachEnded, EndsSo, IsReached, is_no_end, words_of}
-use Rattle.em_core.proofs.Handles.{same_number, distinct-append, words-append, distinct-without_all, has-from_without_all, length-without_all, distinct-few}
-use Rattle.em_core.proofs.Leads.{Shows, event_in, lead-shows}
+use Rattle.em_core.specs.Stands.{Stands, AreCounted, IsAt, IsOver, IsAtStage, EndsSo, is_no_end, words_of}
+use Rattle.em_core.proofs.Handles.{same_number, distinct-append, words-append, distinct-without_all, has-from_without_all, length-without_all}
+use Rattle.em_core.proofs.Leads.{event_in, lead-shows}
 use Rattle.em_core.proofs.Histories.{opened-context, opened-held, acked-context, acked-held, asked-context, asked-held, ended-context, ended-held}
 
 -- counted

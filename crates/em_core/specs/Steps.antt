@@ -17,17 +17,23 @@ use Rattle.em_core.specs.Spent.{spent, minted, Distinct, AreAmong, AreNew}
 
 -- where a run stands
 
--- a context is open
-abbrev pub is_open : Stage → Bool
-is_open (Stage.Open n) = true
-is_open (Stage.Ending cells) = true
-is_open _ = false
+abbrev pub is_open_at : Stage → Bool
+is_open_at (Stage.Open n) = true
+is_open_at (Stage.Ending cells) = true
+is_open_at _ = false
+
+-- a context of the run is open
+abbrev pub is_open : {W : Type 0} → CoreRun W → Bool
+is_open run = is_open_at run.stage
+
+abbrev pub over_at : Stage → Option Step
+over_at (Stage.Over kind) = Some (Step.Over kind)
+over_at Stage.Halted = Some Step.Halted
+over_at _ = None
 
 -- how the run was told that it has ended, if it was
-abbrev pub over : Stage → Option Step
-over (Stage.Over kind) = Some (Step.Over kind)
-over Stage.Halted = Some Step.Halted
-over _ = None
+abbrev pub over : {W : Type 0} → CoreRun W → Option Step
+over run = over_at run.stage
 
 abbrev pub unreplied_at : Option Ask → Stage → Option Step
 unreplied_at a Stage.Taking = Some Step.Take
@@ -117,8 +123,8 @@ module _ {W : Type 0} (k : Ghosts W) where
 
   -- the step that comes next, and the run after it
   abbrev pub Steps : CoreRun W → Step → CoreRun W → Type 0
-  Steps was Step.Take now = (is_open was.stage ≡ false) × (over was.stage ≡ None) × (now ≡ record was { stage = Stage.Taking })
+  Steps was Step.Take now = (is_open was ≡ false) × (over was ≡ None) × (now ≡ record was { stage = Stage.Taking })
   Steps was Step.Untake now = ⊥
-  Steps was (Step.Ask a) now = (is_open was.stage ≡ true) × Asks was.work now.work a × (unreplied now ≡ Some (Step.Ask a))
-  Steps was Step.Silent now = (is_open was.stage ≡ true) × Makes was.work Move.Silent now.work × (now.stage ≡ was.stage)
-  Steps was s now = (over was.stage ≡ Some s) × (now ≡ was)
+  Steps was (Step.Ask a) now = (is_open was ≡ true) × Asks was.work now.work a × (unreplied now ≡ Some (Step.Ask a))
+  Steps was Step.Silent now = (is_open was ≡ true) × Makes was.work Move.Silent now.work × (now.stage ≡ was.stage)
+  Steps was s now = (over was ≡ Some s) × (now ≡ was)

@@ -108,7 +108,7 @@ impl<W: Work> CoreRun<W> {
     pub fn new(core: CoreId, work: W) -> CoreRun<W>
         ensures stands { Stands W.Work result core.0 (W.fixed work) [] }
         ensures unreplied { unreplied W.Work result ≡ None }
-        ensures over { over result.stage ≡ None }
+        ensures over { over result ≡ None }
     {
         CoreRun {
             core,
@@ -138,7 +138,7 @@ impl<W: Work> CoreRun<W> {
 
     /// One move of the work in the open context.
     fn move_on(&mut self) -> Step
-        requires open { is_open self.old.stage ≡ true }
+        requires open { is_open self.old ≡ true }
         requires unreplied { unreplied W.Work self.old ≡ None }
         ensures steps { Steps W.Work self.old result self.new }
         ensures stands { (c : ℕ) (f : W.Fixed) (m : List Piece) → Stands W.Work self.old c f m → Stands W.Work self.new c f m }
@@ -171,7 +171,7 @@ impl<W: Work> CoreRun<W> {
         requires handles { HoldsHandles W.Work self.old reply.now.answer }
         ensures stands { (c : ℕ) (f : W.Fixed) (m n : List Piece) → Stands W.Work self.old c f m → AreHandles (held_by (history c m) c) (unreplied W.Work self.old) reply.now.answer → Grows c (unreplied W.Work self.old) reply.now.answer m n → Stands W.Work self.new c f n }
         ensures unreplied { unreplied W.Work self.new ≡ None }
-        ensures over { over self.new.stage ≡ over_by reply.now.answer }
+        ensures over { over self.new ≡ over_by reply.now.answer }
     {
         match self.stage {
             Stage::Taking => self.took(&reply.answer),
@@ -191,7 +191,7 @@ impl<W: Work> CoreRun<W> {
         requires no_rest { ToldNoRest answer.now }
         ensures stands { (c : ℕ) (f : W.Fixed) (m n : List Piece) → Stands W.Work self.old c f m → GrowsByTake answer.now m n → Stands W.Work self.new c f n }
         ensures unreplied { unreplied W.Work self.new ≡ None }
-        ensures over { over self.new.stage ≡ over_by answer.now }
+        ensures over { over self.new ≡ over_by answer.now }
     {
         match answer {
             Answer::Context(context) => self.open(context),
@@ -208,7 +208,7 @@ impl<W: Work> CoreRun<W> {
         requires no_rest { HasNoRest context.now }
         ensures stands { (c : ℕ) (f : W.Fixed) (m : List Piece) → Stands W.Work self.old c f m → Stands W.Work self.new c f (Piece.Opened context.now ∷ m) }
         ensures unreplied { unreplied W.Work self.new ≡ None }
-        ensures over { over self.new.stage ≡ None }
+        ensures over { over self.new ≡ None }
     {
         self.work.begin(context);
         self.held = opening_handles(context);
@@ -222,7 +222,7 @@ impl<W: Work> CoreRun<W> {
         requires handles { HoldsHandles W.Work self.old answer.now }
         ensures stands { (c : ℕ) (f : W.Fixed) (m n : List Piece) (a : TheAsk) → W.unanswered (W.state self.old.work) ≡ Some a → Stands W.Work self.old c f m → AreHandles (held_by (history c m) c) (Some (TheStep.Ask a)) answer.now → GrowsByAsk c a answer.now m n → Stands W.Work self.new c f n }
         ensures unreplied { unreplied W.Work self.new ≡ None }
-        ensures over { over self.new.stage ≡ None }
+        ensures over { over self.new ≡ None }
     {
         self.work.answer(answer);
         self.held = held_after(self.held, words, answer);
@@ -234,7 +234,7 @@ impl<W: Work> CoreRun<W> {
         requires { unreplied W.Work self.old ≡ Some TheStep.Take }
         ensures stands { (c : ℕ) (f : W.Fixed) (m : List Piece) → Stands W.Work self.old c f m → Stands W.Work self.new c f m }
         ensures unreplied { unreplied W.Work self.new ≡ None }
-        ensures over { over self.new.stage ≡ None }
+        ensures over { over self.new ≡ None }
     {
         self.stage = Stage::Between;
     }

@@ -1,4 +1,4 @@
-use Rattle.std.proofs.Common.{◌≡◌, ℕ, Option, Some, None, refl, sym, ap, ◌∙◌, subst, arith}
+use Rattle.std.proofs.Common.{arith}
 use Rattle.em_log.specs.Handles.{held}
 use Rattle.em_core.specs.Pieces.{history}
 use Rattle.em_core.proofs.Handles.{distinct-few}

@@ -1,6 +1,4 @@
-use Rattle.std.proofs.Common.{◌≡◌, ℕ, Option, Some, None, refl, sym, ap, ◌∙◌, subst}
-use Rattle.em_log.specs.declared.ask.Ask.{Ask}
-use Rattle.em_log.specs.declared.work.Move.{Move}
+use Rattle.std.proofs.Common.{refl}
 use Rattle.em_core.specs.Steps.{Ended}
 use Rattle.em_core.proofs.Replies.{open-free}
 use Rattle.em_core.proofs.Standing.{stands-silent, stands-asked, stands-ending}

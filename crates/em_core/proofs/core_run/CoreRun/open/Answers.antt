@@ -1,8 +1,3 @@
-use Rattle.std.proofs.Common.{◌≡◌, ℕ, refl, sym, subst}
-use Rattle.em_core.specs.declared.core_run.Stage.{Stage}
-use Rattle.em_core.specs.Pieces.{Piece}
-use Rattle.em_core.specs.Spent.{handles_in}
-use Rattle.em_core.specs.Stands.{Stands}
 use Rattle.em_core.proofs.Standing.{stands-opened}
 use Rattle.em_core.proofs.core_run.CoreRun.open.Goals as goal
 

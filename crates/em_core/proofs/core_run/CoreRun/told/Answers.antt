@@ -1,5 +1,4 @@
-use Rattle.std.proofs.Common.{◌≡◌, ℕ, List, Option, Some, None, refl, sym, ap, ◌∙◌, subst}
-use Rattle.em_log.specs.declared.ask.Ask.{Ask}
+use Rattle.std.proofs.Common.{Option, subst}
 use Rattle.em_log.specs.Handles.{held}
 use Rattle.em_core.specs.declared.core_run.Stage.{Stage}
 use Rattle.em_core.specs.declared.core_run.Step.{Step}
