@@ -1,3 +1,4 @@
+pub mod FixedAsks
 pub mod Pieces
 pub mod Spent
 pub mod Stands

@@ -41,6 +41,13 @@ unreplied_at a (Stage.Open n) = option_map Step.Ask a
 unreplied_at a (Stage.Ending cells) = Some (Step.Ask (Ask.End cells))
 unreplied_at a _ = None
 
+-- the step that wants a reply, if this one does
+abbrev pub awaited : Step → Option Step
+awaited Step.Take = Some Step.Take
+awaited Step.Untake = Some Step.Untake
+awaited (Step.Ask a) = Some (Step.Ask a)
+awaited _ = None
+
 -- what it may be told
 
 -- the answers to a take
@@ -125,6 +132,6 @@ module _ {W : Type 0} (k : Ghosts W) where
   abbrev pub Steps : CoreRun W → Step → CoreRun W → Type 0
   Steps was Step.Take now = (is_open was ≡ false) × (over was ≡ None) × (now ≡ record was { stage = Stage.Taking })
   Steps was Step.Untake now = ⊥
-  Steps was (Step.Ask a) now = (is_open was ≡ true) × Asks was.work now.work a × (unreplied now ≡ Some (Step.Ask a))
+  Steps was (Step.Ask a) now = (is_open was ≡ true) × Asks was.work now.work a
   Steps was Step.Silent now = (is_open was ≡ true) × Makes was.work Move.Silent now.work × (now.stage ≡ was.stage)
   Steps was s now = (over was ≡ Some s) × (now ≡ was)

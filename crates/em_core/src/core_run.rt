@@ -100,7 +100,7 @@ impl<W: Work> CoreRun<W> {
     ghost use Rattle.em_log.specs.Works.{Fits};
     ghost use Rattle.em_core.specs.Pieces.{Piece, HasNoRest, history};
     ghost use Rattle.em_core.specs.Stands.{Stands, HoldsHandles};
-    ghost use Rattle.em_core.specs.Steps.{Steps, unreplied, is_open, FitsStep, fits_take, ToldNoRest, AreHandles, Grows, GrowsByTake, GrowsByAsk, over, over_by};
+    ghost use Rattle.em_core.specs.Steps.{Steps, unreplied, awaited, is_open, FitsStep, fits_take, ToldNoRest, AreHandles, Grows, GrowsByTake, GrowsByAsk, over, over_by};
     ghost use Rattle.em_core.specs.declared.core_run.Stage.{Stage};
     ghost use Rattle.em_core.specs.declared.core_run.Step.{Step as TheStep};
 
@@ -123,6 +123,7 @@ impl<W: Work> CoreRun<W> {
     pub fn next(&mut self) -> Step
         requires { unreplied W.Work self.old ≡ None }
         ensures steps { Steps W.Work self.old result self.new }
+        ensures unreplied { unreplied W.Work self.new ≡ awaited result }
         ensures stands { (c : ℕ) (f : W.Fixed) (m : List Piece) → Stands W.Work self.old c f m → Stands W.Work self.new c f m }
     {
         match self.stage {
@@ -141,6 +142,7 @@ impl<W: Work> CoreRun<W> {
         requires open { is_open self.old ≡ true }
         requires unreplied { unreplied W.Work self.old ≡ None }
         ensures steps { Steps W.Work self.old result self.new }
+        ensures unreplied { unreplied W.Work self.new ≡ awaited result }
         ensures stands { (c : ℕ) (f : W.Fixed) (m : List Piece) → Stands W.Work self.old c f m → Stands W.Work self.new c f m }
     {
         match self.work.next() {

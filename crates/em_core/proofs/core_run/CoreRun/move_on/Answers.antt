@@ -29,7 +29,7 @@ returns-in-Ask-clause-stands g c d f m stands =
 pub returns-in-End-clause-steps : goal.returns-in-End-clause-steps
 returns-in-End-clause-steps g c =
     let moves = rw c.in-End.is at c.next.ensures.moves in
-    (c.requires.open, Ended c.cells-cells.result refl moves c.cells-cells.ensures, refl)
+    (c.requires.open, Ended c.cells-cells.result refl moves c.cells-cells.ensures)
 
 pub returns-in-End-clause-stands : goal.returns-in-End-clause-stands
 returns-in-End-clause-stands g c d f m stands =
