@@ -1,3 +1,4 @@
+pub mod FixedAsks
 pub mod Handles
 pub mod Leads
 pub mod Histories

@@ -241,8 +241,8 @@ module _ {W : Type 0} (k : Ghosts W) where
       let still : open_context (p ∷ m) ≡ open_context m = open-after a (open_context m) mid in
       let opened : context (history c m) c ≡ Some (begun_by at.context) = stands.opened ∙ ap (option_map begun_by) at.is_open in
       let counted : AreCounted (count_after run.held words x) (with_minted (Some (begun_by at.context)) (event_in x) (without_all (spent a x) (held (history c m) c)))
-          = counted-answered run.held words a x (begun_by at.context) (held (history c m) c) stands.held
-          (at.words ∙ ap (λ (u : Option Ask). length (words_of u)) asks) handles.different handles.among handles.new small in
+      = counted-answered run.held words a x (begun_by at.context) (held (history c m) c) stands.held
+      (at.words ∙ ap (λ (u : Option Ask). length (words_of u)) asks) handles.different handles.among handles.new small in
       let answered : Stands k (run_with run now (Stage.Open 0) (count_after run.held words x)) c f (p ∷ m) = record {
         core = stands.core;
         fixed = same ∙ stands.fixed;
@@ -271,7 +271,7 @@ module _ {W : Type 0} (k : Ghosts W) where
   stands-ended run c f m n cells x is grows stands =
       let p = Piece.Answered grows.entry grows.tail (Ask.End cells) x in
       let over : IsOver k f (open_context m) (exchanges m) (k.state run.work) cells
-          = subst (λ (g : Stage). IsAtStage k f (open_context m) (exchanges m) (k.state run.work) g) is stands.stage in
+      = subst (λ (g : Stage). IsAtStage k f (open_context m) (exchanges m) (k.state run.work) g) is stands.stage in
       let ended : Stands k (run_with run run.work Stage.Between 0) c f (p ∷ m) = record {
         core = stands.core;
         fixed = stands.fixed;

@@ -3,12 +3,16 @@ use Rattle.std.specs.Prelude.{ℕ, zero, suc, ◌≡◌, Bool, true, false, List
 use Rattle.em_log.specs.declared.ask.Answer.{Answer}
 use Rattle.em_log.specs.declared.ask.Ask.{Ask}
 use Rattle.em_log.specs.declared.ask.Context.{Context}
-use Rattle.em_log.specs.declared.ask.Receive.{Receive}
+use Rattle.em_log.specs.declared.declarations.Declarations.{Declarations}
+use Rattle.em_log.specs.declared.declarations.QueueShape.{QueueShape}
+use Rattle.em_log.specs.declared.entry.Body.{Body}
 use Rattle.em_log.specs.declared.entry.Event.{Event}
 use Rattle.em_log.specs.declared.entry.What.{What}
 use Rattle.em_log.specs.declared.fault.Call.{Call}
 use Rattle.em_log.specs.declared.fault.Fault.{Fault}
 use Rattle.em_log.specs.declared.ids.Cells.{Cells}
+use Rattle.em_log.specs.declared.ids.Kind.{Kind}
+use Rattle.em_log.specs.History.{Past, entry_by}
 use Rattle.em_log.specs.declared.work.Move.{Move}
 use Rattle.em_log.specs.declared.work.Work.{Ghosts}
 use Rattle.em_log.specs.Works.{asked, asks_no_end}
@@ -27,8 +31,8 @@ pub record Place : Type 0 where
 
 -- the asks, each at its line
 abbrev pub ask_at : ℕ → Option Ask
-ask_at (suc zero) = Some (Ask.Alloc (record { 0 = 0 }) 3 [])
-ask_at (suc (suc zero)) = Some (Ask.Free 131072)
+ask_at (suc zero) = Some (Ask.Dequeue (record { 0 = 1 }))
+ask_at (suc (suc zero)) = Some (Ask.Free 65537)
 ask_at (suc (suc (suc zero))) = Some Ask.Claim
 ask_at (suc (suc (suc (suc zero)))) = Some (Ask.Free 5)
 ask_at _ = None
@@ -63,30 +67,37 @@ pub record IsReady {W : Type 0} (k : Ghosts W) (run : CoreRun W) (m : List Piece
   pub stands : Stands k run 0 fixed m
   pub replied : unreplied k run ≡ None
 
+-- the same of some list
+abbrev pub IsGoing : {W : Type 0} → Ghosts W → CoreRun W → Type 0
+IsGoing k run = (m : List Piece) × IsReady k run m
+
 abbrev pub eight : Option Cells
 eight = Some (record { 0 = 1 ∷ 2 ∷ 3 ∷ 4 ∷ 5 ∷ 6 ∷ 7 ∷ 8 ∷ [] })
 
 abbrev pub event_at : ℕ → ℕ → Event
 event_at h kind = record { handle = record { 0 = h }; kind = kind; words = [] }
 
-abbrev pub received : List Piece
-received =
-    Piece.Opened (Context.Receive (record {
+abbrev pub one_receive : Context
+one_receive =
+    Context.Receive (record {
       queue = record { 0 = 0 };
       eo = record { 0 = 0 };
-      event = event_at 131072 7;
+      event = event_at 65537 7;
       stamp = None;
       ticket = None;
       cells = eight;
       rest = [];
-    })) ∷ []
+    })
 
-abbrev pub allocated : List Piece
-allocated =
-    Piece.Answered (What.Alloc (record { 0 = 0 }) (event_at 65536 3)) [] (Ask.Alloc (record { 0 = 0 }) 3 []) (Answer.Minted (event_at 65536 3)) ∷ received
+abbrev pub received : List Piece
+received = Piece.Opened one_receive ∷ []
+
+abbrev pub dequeued : List Piece
+dequeued =
+    Piece.Answered (What.Dequeue (record { 0 = 1 }) (Some (event_at 131072 3))) [] (Ask.Dequeue (record { 0 = 1 })) (Answer.Minted (event_at 131072 3)) ∷ received
 
 abbrev pub freed : List Piece
-freed = Piece.Answered (What.Free (record { 0 = 131072 })) [] (Ask.Free 131072) Answer.Done ∷ allocated
+freed = Piece.Answered (What.Free (record { 0 = 65537 })) [] (Ask.Free 65537) Answer.Done ∷ dequeued
 
 abbrev pub claimed : List Piece
 claimed = Piece.Answered (What.Claim None) [] Ask.Claim Answer.Nothing ∷ freed
@@ -95,5 +106,31 @@ abbrev pub refused : List Piece
 refused =
     Piece.Answered (What.Fault Call.Free (Fault.NeverMinted 5) None) [] (Ask.Free 5) (Answer.Refused (Fault.NeverMinted 5)) ∷ claimed
 
-abbrev pub ended : List Piece
-ended = Piece.Answered (What.End 1 eight) [] (Ask.End eight) Answer.Done ∷ refused
+abbrev pub ended : Option Cells → List Piece
+ended cells = Piece.Answered (What.End 1 cells) [] (Ask.End cells) Answer.Done ∷ refused
+
+-- a history in which an event waits in an unscheduled queue
+
+abbrev pub queue_of : Kind → QueueShape
+queue_of kind = record { kind = kind; eo = None; priority = None; group = None; agroup = None }
+
+abbrev pub shapes : Declarations
+shapes =
+    record {
+      cores = 1;
+      pools = record { events = 1; words = 0 } ∷ [];
+      groups = [];
+      running = [];
+      agroups = [];
+      queues = queue_of Kind.Output ∷ queue_of Kind.Unscheduled ∷ [];
+      egroups = 0;
+    }
+
+abbrev pub one_waits : Past
+one_waits =
+    entry_by 0 (What.Send (record { 0 = 65536 }) (record { 0 = 1 }) None None)
+    ∷ entry_by 0 (What.Alloc (record { 0 = 0 }) (event_at 65536 3)) ∷ entry_by 0 (What.Enter Body.Boot) ∷ []
+
+-- one in which core 0 has received an event
+abbrev pub one_started : Past
+one_started = entry_by 0 (What.Start (record { 0 = 0 }) (event_at 65537 7) None) ∷ []

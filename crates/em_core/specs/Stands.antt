@@ -16,7 +16,6 @@ use Rattle.em_core.specs.Pieces.{Piece, begun_by, history, ArePieces, open_conte
 use Rattle.em_core.specs.Spent.{words_in, Distinct, AreWords}
 use Rattle.em_core.specs.Steps.{unreplied, AreHandles}
 
-
 -- the ask that may be unanswered while a context is open is no end
 abbrev pub is_no_end : Option Ask → Bool
 is_no_end None = true

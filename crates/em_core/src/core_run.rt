@@ -2,9 +2,7 @@
 ghost use Rattle.std.specs.Prelude.{◌≡◌, ◌<◌, ◌≤◌, ◌^◌, length};
 ghost use Rattle.em_core.specs.Spent.{words_in as the_words_in, handles_in, minted, AreWords, IsMinted, IsDone, count_after};
 
-use em_log::{
-    Answer, Ask, Cells, Context, CoreId, EndKind, Locals, Move, Reply, Work,
-};
+use em_log::{Answer, Ask, Cells, Context, CoreId, EndKind, Locals, Move, Reply, Work};
 
 /// The next step of a core. `Take` and `Ask` are for the desk, and their replies are told to the run; `Untake` is too,
 /// and does not come yet. `Silent` asks nothing. `Over` and `Halted` say how the run has ended, and come again.

@@ -27,6 +27,6 @@ returns-clause-stands g c d f m n a asks stands handles grows =
     let k = g.W.Work in
     let none = g.met.W.Work.leaves_unasked _ _ _ _ c.answer.ensures.leaves in
     let answered = stands-answered k c.args.self.now c.answer.new.self d f m n c.args.words a c.args.answer.now c.requires.stage asks
-        c.requires.fits none c.answer.ensures.fixed c.answer.ensures.leaves handles c.held_after-self.ensures.words grows stands in
+    c.requires.fits none c.answer.ensures.fixed c.answer.ensures.leaves handles c.held_after-self.ensures.words grows stands in
     let count = c.held_after-self.ensures.count in
     rw count answered

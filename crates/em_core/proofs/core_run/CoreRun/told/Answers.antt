@@ -37,4 +37,4 @@ pub returns-in_default : goal.returns-in_default
 returns-in_default g c =
     let k = g.W.Work in
     absurd (no-step (k.unanswered (k.state c.args.self.now.work)) c.args.self.now.stage c.args.reply.now.answer c.requires.fits
-      c.in_default.not-Taking c.in_default.not-Open c.in_default.not-Ending)
+    c.in_default.not-Taking c.in_default.not-Open c.in_default.not-Ending)
