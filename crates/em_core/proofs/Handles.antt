@@ -20,7 +20,7 @@ or-more false x y more is = more is
 pub same_number : (n : ℕ) → (n == n) ≡ true
 same_number n = elim (eqb_tells n n) [ inl t ↦ t.0 | inr t ↦ absurd (t.1 refl) ]
 
-differ : (n m : ℕ) → n ≢ m → (n == m) ≡ false
+pub differ : (n m : ℕ) → n ≢ m → (n == m) ≡ false
 differ n m other = elim (eqb_tells n m) [ inl t ↦ absurd (other t.1) | inr t ↦ t.0 ]
 
 -- without one handle

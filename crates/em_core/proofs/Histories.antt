@@ -10,7 +10,7 @@ use Rattle.em_log.specs.declared.ids.OpId.{OpId}
 use Rattle.em_log.specs.History.{Past, names, without_all, entry_by, entries_by, onto}
 use Rattle.em_log.specs.Contexts.{context, context_after}
 use Rattle.em_log.specs.Handles.{held, held_after, with_minted}
-use Rattle.em_core.specs.Pieces.{Piece, IsLead, AllFollow, follows, begun_by, history}
+use Rattle.em_core.specs.Pieces.{Piece, IsLead, AreTail, is_tail, begun_by, history}
 use Rattle.em_core.specs.Spent.{spent, handles_in}
 use Rattle.em_core.proofs.Handles.{same_number}
 use Rattle.em_core.proofs.Leads.{Shows, event_in, lead-ends}
@@ -29,35 +29,35 @@ entry-held c w past = own c _ _
 
 -- what follows in an ask
 
-follows-context : (w : What) (was : Option What) → IsTrue (follows w) → context_after w was ≡ was
-follows-context (What.Enter b) was is = absurd cc
-follows-context (What.Start q e s) was is = absurd cc
-follows-context (What.End lost cells) was is = absurd cc
-follows-context w was is = refl
+tail_entry-context : (w : What) (was : Option What) → IsTrue (is_tail w) → context_after w was ≡ was
+tail_entry-context (What.Enter b) was is = absurd cc
+tail_entry-context (What.Start q e s) was is = absurd cc
+tail_entry-context (What.End lost cells) was is = absurd cc
+tail_entry-context w was is = refl
 
 unminted : (was : Option What) (hs : List ℕ) → with_minted was None hs ≡ hs
 unminted None hs = refl
 unminted (Some b) hs = refl
 
-follows-held : (w : What) (was : Option What) (hs : List ℕ) → IsTrue (follows w)
+tail_entry-held : (w : What) (was : Option What) (hs : List ℕ) → IsTrue (is_tail w)
     → held_after w was (without_all (names w) hs) ≡ hs
-follows-held (What.Out q kind words) was hs is = unminted was hs
-follows-held (What.GlobalDone op ok) was hs is = unminted was hs
-follows-held (What.Ack op) was hs is = unminted was hs
-follows-held (What.Done op ok) was hs is = unminted was hs
-follows-held (What.Notify g app) was hs is = unminted was hs
-follows-held (What.Fault asked f scope) was hs is = unminted was hs
-follows-held w was hs is = absurd cc
+tail_entry-held (What.Out q kind words) was hs is = unminted was hs
+tail_entry-held (What.GlobalDone op ok) was hs is = unminted was hs
+tail_entry-held (What.Ack op) was hs is = unminted was hs
+tail_entry-held (What.Done op ok) was hs is = unminted was hs
+tail_entry-held (What.Notify g app) was hs is = unminted was hs
+tail_entry-held (What.Fault asked f scope) was hs is = unminted was hs
+tail_entry-held w was hs is = absurd cc
 
-pub tail-context : (c : ℕ) (ws : List What) (past : Past) → AllFollow ws → context (onto (entries_by c ws) past) c ≡ context past c
+pub tail-context : (c : ℕ) (ws : List What) (past : Past) → AreTail ws → context (onto (entries_by c ws) past) c ≡ context past c
 tail-context c [] past all = refl
 tail-context c (w ∷ ws) past all =
-    tail-context c ws (entry_by c w ∷ past) all.1 ∙ entry-context c w past ∙ follows-context w (context past c) all.0
+    tail-context c ws (entry_by c w ∷ past) all.1 ∙ entry-context c w past ∙ tail_entry-context w (context past c) all.0
 
-pub tail-held : (c : ℕ) (ws : List What) (past : Past) → AllFollow ws → held (onto (entries_by c ws) past) c ≡ held past c
+pub tail-held : (c : ℕ) (ws : List What) (past : Past) → AreTail ws → held (onto (entries_by c ws) past) c ≡ held past c
 tail-held c [] past all = refl
 tail-held c (w ∷ ws) past all =
-    tail-held c ws (entry_by c w ∷ past) all.1 ∙ entry-held c w past ∙ follows-held w (context past c) (held past c) all.0
+    tail-held c ws (entry_by c w ∷ past) all.1 ∙ entry-held c w past ∙ tail_entry-held w (context past c) (held past c) all.0
 
 -- a context begins
 
@@ -79,22 +79,22 @@ opened-held c (Context.GlobalStop op x) m = own c _ _
 
 -- an acknowledgement
 
-pub acked-context : (c : ℕ) (op : OpId) (tail : List What) (m : List Piece) → AllFollow tail
+pub acked-context : (c : ℕ) (op : OpId) (tail : List What) (m : List Piece) → AreTail tail
     → context (history c (Piece.Acked op tail ∷ m)) c ≡ context (history c m) c
 acked-context c op tail m all = tail-context c (What.Ack op ∷ tail) (history c m) (refl, all)
 
-pub acked-held : (c : ℕ) (op : OpId) (tail : List What) (m : List Piece) → AllFollow tail
+pub acked-held : (c : ℕ) (op : OpId) (tail : List What) (m : List Piece) → AreTail tail
     → held (history c (Piece.Acked op tail ∷ m)) c ≡ held (history c m) c
 acked-held c op tail m all = tail-held c (What.Ack op ∷ tail) (history c m) (refl, all)
 
 -- an ask in the midst of a context
 
-pub asked-context : (c : ℕ) (w : What) (tail : List What) (a : Ask) (x : Answer) (m : List Piece) → Shows a x w → AllFollow tail
+pub asked-context : (c : ℕ) (w : What) (tail : List What) (a : Ask) (x : Answer) (m : List Piece) → Shows a x w → AreTail tail
     → context (history c (Piece.Answered w tail a x ∷ m)) c ≡ context (history c m) c
 asked-context c w tail a x m shows all =
     tail-context c tail (entry_by c w ∷ history c m) all ∙ entry-context c w (history c m) ∙ shows.context (context (history c m) c)
 
-pub asked-held : (c : ℕ) (w : What) (tail : List What) (a : Ask) (x : Answer) (m : List Piece) → Shows a x w → AllFollow tail
+pub asked-held : (c : ℕ) (w : What) (tail : List What) (a : Ask) (x : Answer) (m : List Piece) → Shows a x w → AreTail tail
     → held (history c (Piece.Answered w tail a x ∷ m)) c
     ≡ with_minted (context (history c m) c) (event_in x) (without_all (spent a x) (held (history c m) c))
 asked-held c w tail a x m shows all =
@@ -107,13 +107,13 @@ asked-held c w tail a x m shows all =
 -- an end
 
 pub ended-context : (c : ℕ) (w : What) (tail : List What) (cells : Option Cells) (x : Answer) (m : List Piece)
-    → IsLead c (Ask.End cells) x w → AllFollow tail → context (history c (Piece.Answered w tail (Ask.End cells) x ∷ m)) c ≡ None
+    → IsLead c (Ask.End cells) x w → AreTail tail → context (history c (Piece.Answered w tail (Ask.End cells) x ∷ m)) c ≡ None
 ended-context c w tail cells x m lead all =
     let is = (lead-ends c cells x w lead).1 in
     tail-context c tail (entry_by c w ∷ history c m) all ∙ entry-context c w (history c m) ∙ rw is refl
 
 pub ended-held : (c : ℕ) (w : What) (tail : List What) (cells : Option Cells) (x : Answer) (m : List Piece)
-    → IsLead c (Ask.End cells) x w → AllFollow tail → held (history c (Piece.Answered w tail (Ask.End cells) x ∷ m)) c ≡ []
+    → IsLead c (Ask.End cells) x w → AreTail tail → held (history c (Piece.Answered w tail (Ask.End cells) x ∷ m)) c ≡ []
 ended-held c w tail cells x m lead all =
     let is = (lead-ends c cells x w lead).1 in
     tail-held c tail (entry_by c w ∷ history c m) all ∙ entry-held c w (history c m) ∙ rw is refl

@@ -1,5 +1,5 @@
 -- What a run stands for after each of its calls.
-use Rattle.std.proofs.Common.{◌≡◌, ℕ, ◌+◌, ◌-◌, ◌<◌, ◌^◌, false, List, [], ◌∷◌, ◌++◌, length, length-append, Option, Some, None, refl, sym, ap, ◌∙◌, subst, arith}
+use Rattle.std.proofs.Common.{◌≡◌, ℕ, ◌+◌, ◌-◌, ◌<◌, ◌^◌, true, false, List, [], ◌∷◌, ◌++◌, length, length-append, Option, Some, None, refl, sym, ap, ◌∙◌, subst, arith}
 use Rattle.std.specs.Prelude.{IsTrue}
 use Rattle.std.specs.Option.{option_map}
 use Rattle.em_log.specs.declared.ask.Answer.{Answer}
@@ -19,7 +19,7 @@ use Rattle.em_core.specs.declared.core_run.Stage.{Stage}
 use Rattle.em_core.specs.declared.core_run.Step.{Step}
 use Rattle.em_core.specs.Pieces.{Piece, HasNoRest, begun_by, history, open_context, open_after, exchanges}
 use Rattle.em_core.specs.Spent.{words_in, spent, minted, handles_in, count_after, Distinct, AreAmong, AreNew, AreWords}
-use Rattle.em_core.specs.Steps.{AreHandles, GrowsByTake, GrowsByAsk}
+use Rattle.em_core.specs.Steps.{is_open, is_open_at, AreHandles, GrowsByTake, GrowsByAsk}
 use Rattle.em_core.specs.Stands.{Stands, AreCounted, IsAt, IsOver, IsAtStage, EndsSo, is_no_end, words_of}
 use Rattle.em_core.proofs.Handles.{same_number, distinct-append, words-append, distinct-without_all, has-from_without_all, length-without_all}
 use Rattle.em_core.proofs.Leads.{event_in, lead-shows}
@@ -111,6 +111,33 @@ module _ {W : Type 0} (k : Ghosts W) where
         held = stands.held;
         locals = stands.locals;
       }
+
+  -- whether a context is open
+
+  closed-at : (f : k.Fixed) (current : Option Context) (es : List Exchange) (now : k.State) (stage : Stage) → is_open_at stage ≡ false
+      → IsAtStage k f current es now stage → current ≡ None
+  closed-at f current es now (Stage.Open n) shut at = absurd cc
+  closed-at f current es now (Stage.Ending cells) shut at = absurd cc
+  closed-at f current es now stage shut at = at
+
+  -- no context is open where the run has none
+  pub stands-closed_context : (run : CoreRun W) (c : ℕ) (f : k.Fixed) (m : List Piece) → is_open run ≡ false → Stands k run c f m
+      → context (history c m) c ≡ None
+  stands-closed_context run c f m shut stands =
+      stands.opened ∙ ap (option_map begun_by) (closed-at f (open_context m) (exchanges m) (k.state run.work) run.stage shut stands.stage)
+
+  open-at : (f : k.Fixed) (current : Option Context) (es : List Exchange) (now : k.State) (stage : Stage) → is_open_at stage ≡ true
+      → IsAtStage k f current es now stage → (b : Context) × (current ≡ Some b)
+  open-at f current es now (Stage.Open n) is at = (at.context, at.is_open)
+  open-at f current es now (Stage.Ending cells) is at = (at.context, at.is_open)
+  open-at f current es now stage is at = absurd cc
+
+  -- and one is where it has one
+  pub stands-open_context : (run : CoreRun W) (c : ℕ) (f : k.Fixed) (m : List Piece) → is_open run ≡ true → Stands k run c f m
+      → (b : Context) × (open_context m ≡ Some b) × (context (history c m) c ≡ Some (begun_by b))
+  stands-open_context run c f m is stands =
+      let at = open-at f (open_context m) (exchanges m) (k.state run.work) run.stage is stands.stage in
+      (at.0, at.1, stands.opened ∙ ap (option_map begun_by) at.1)
 
   -- the open context of a run at this stage
   pub at-open : (run : CoreRun W) (c : ℕ) (f : k.Fixed) (m : List Piece) (n : ℕ) → run.stage ≡ Stage.Open n → Stands k run c f m

@@ -49,18 +49,18 @@ history c (p ∷ m) = onto (entries_by c (entries_of p)) (history c m)
 -- what may stand
 
 -- an entry that follows in an ask: none begins or ends a context, nor mints or names a handle
-abbrev pub follows : What → Bool
-follows (What.Out q kind words) = true
-follows (What.GlobalDone op ok) = true
-follows (What.Ack op) = true
-follows (What.Done op ok) = true
-follows (What.Notify g app) = true
-follows (What.Fault asked f scope) = true
-follows _ = false
+abbrev pub is_tail : What → Bool
+is_tail (What.Out q kind words) = true
+is_tail (What.GlobalDone op ok) = true
+is_tail (What.Ack op) = true
+is_tail (What.Done op ok) = true
+is_tail (What.Notify g app) = true
+is_tail (What.Fault asked f scope) = true
+is_tail _ = false
 
-abbrev pub AllFollow : List What → Type 0
-AllFollow [] = Unit {0}
-AllFollow (w ∷ ws) = IsTrue (follows w) × AllFollow ws
+abbrev pub AreTail : List What → Type 0
+AreTail [] = Unit {0}
+AreTail (w ∷ ws) = IsTrue (is_tail w) × AreTail ws
 
 -- today a context comes with no further events
 abbrev pub HasNoRest : Context → Type 0
@@ -76,8 +76,8 @@ pub record IsLead (c : ℕ) (a : Ask) (x : Answer) (w : What) : Type 0 where
 
 abbrev pub IsPiece : ℕ → Piece → Type 0
 IsPiece c (Opened k) = HasNoRest k
-IsPiece c (Acked op tail) = AllFollow tail
-IsPiece c (Answered w tail a x) = IsLead c a x w × AllFollow tail
+IsPiece c (Acked op tail) = AreTail tail
+IsPiece c (Answered w tail a x) = IsLead c a x w × AreTail tail
 
 abbrev pub ArePieces : ℕ → List Piece → Type 0
 ArePieces c [] = Unit {0}

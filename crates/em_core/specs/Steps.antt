@@ -12,7 +12,7 @@ use Rattle.em_log.specs.Works.{fits}
 use Rattle.em_core.specs.declared.core_run.CoreRun.{CoreRun}
 use Rattle.em_core.specs.declared.core_run.Stage.{Stage}
 use Rattle.em_core.specs.declared.core_run.Step.{Step}
-use Rattle.em_core.specs.Pieces.{Piece, HasNoRest, AllFollow, IsLead}
+use Rattle.em_core.specs.Pieces.{Piece, HasNoRest, AreTail, IsLead}
 use Rattle.em_core.specs.Spent.{spent, minted, Distinct, AreAmong, AreNew}
 
 -- where a run stands
@@ -95,7 +95,7 @@ pub record AreHandles (held : List ℕ) (step : Option Step) (x : Answer) : Type
 -- what a reply adds to the list of a core
 abbrev pub GrowsByTake : Answer → List Piece → List Piece → Type 0
 GrowsByTake (Answer.Context k) m n = n ≡ Piece.Opened k ∷ m
-GrowsByTake (Answer.Acked op) m n = (tail : List What) × AllFollow tail × (n ≡ Piece.Acked op tail ∷ m)
+GrowsByTake (Answer.Acked op) m n = (tail : List What) × AreTail tail × (n ≡ Piece.Acked op tail ∷ m)
 GrowsByTake x m n = n ≡ m
 
 -- an ask beside its answer and entry, and what follows
@@ -103,7 +103,7 @@ pub record GrowsByAsk (c : ℕ) (a : Ask) (x : Answer) (m n : List Piece) : Type
   pub entry : What
   pub tail : List What
   pub is_lead : IsLead c a x entry
-  pub follow : AllFollow tail
+  pub follow : AreTail tail
   pub is : n ≡ Piece.Answered entry tail a x ∷ m
 
 abbrev pub Grows : ℕ → Option Step → Answer → List Piece → List Piece → Type 0
