@@ -1,5 +1,6 @@
 -- How a core's list grows with a history: its entries are the core's part of the history.
-use Rattle.std.proofs.Common.{◌≡◌, ◌≢◌, ℕ, ◌==◌, Bool, true, false, ◌&&◌, List, [], ◌∷◌, ◌++◌, Option, Some, None, refl, sym, ap, ◌∙◌, if◌then◌else◌}
+use Rattle.std.proofs.Common.{◌≡◌, ◌≢◌, ◌⊎◌, inl, inr, ℕ, ◌==◌, Bool, true, false, ◌&&◌, List, [], ◌∷◌, ◌++◌, Option, Some, None, refl, sym, ap, ◌∙◌, if◌then◌else◌}
+use Rattle.std.specs.Prelude.{IsTrue}
 use Rattle.em_log.specs.declared.ask.Answer.{Answer}
 use Rattle.em_log.specs.declared.ask.Ask.{Ask}
 use Rattle.em_log.specs.declared.declarations.Declarations.{Declarations}
@@ -10,14 +11,14 @@ use Rattle.em_log.specs.declared.ids.Note.{Note}
 use Rattle.em_log.specs.declared.ids.Stamp.{Stamp}
 use Rattle.em_log.specs.Answers.{answer_of, block}
 use Rattle.em_log.specs.EventGroups.{is_current, count, applied_notes, open_stamp}
-use Rattle.em_log.specs.Handles.{Minting, minting}
-use Rattle.em_log.specs.History.{Past, part, onto, entry_by, entries_by}
+use Rattle.em_log.specs.Handles.{Minting, minting, held, held_after}
+use Rattle.em_log.specs.History.{Past, part, onto, names, without_all, entry_by, entries_by}
 use Rattle.em_log.specs.Leads.{lead}
 use Rattle.em_log.specs.Operations.{all_acked, operation, notes_of}
 use Rattle.em_log.specs.Order.{Sent, open_ticket, let_in}
 use Rattle.em_log.specs.Arrivals.{send_entering}
 use Rattle.em_log.specs.Declarations.{kind_of, is_output}
-use Rattle.em_log.specs.Contexts.{context}
+use Rattle.em_log.specs.Contexts.{context, context_after}
 use Rattle.em_log.specs.States.{closed}
 use Rattle.em_log.specs.Tails.{tail_of, outs, out, out_of, note_result, note_results, note_sent, completion, notification, ack_tail, end_tail, global_start_tail, has_failed}
 use Rattle.em_log.proofs.Follows.{is_asked, lead-is_asked}
@@ -166,3 +167,33 @@ pub ack-part : (k : Declarations) (past : Past) (c : ℕ) (op : OpId) (m : List 
 ack-part k past c op m is =
     let tail = tail_of k past (entry_by c (What.Ack op) ∷ past) c (What.Ack op) in
     ap (λ (h : Past). onto (entries_by c tail) (entry_by c (What.Ack op) ∷ h)) is ∙ sym (part-block k past c (What.Ack op))
+
+-- what a core's part shows of the history
+
+pub part-context : (past : Past) (c : ℕ) → context (part past c) c ≡ context past c
+part-context [] c = refl
+part-context (e ∷ past) c = by_test (part-context past c) (e.core.0 == c) refl
+  where
+    by_test : context (part past c) c ≡ context past c → (b : Bool) → (e.core.0 == c) ≡ b
+        → context (if b then e ∷ part past c else part past c) c ≡ (if b then context_after e.what (context past c) else context past c)
+    by_test rest true mine = rw mine (ap (context_after e.what) rest)
+    by_test rest false mine = rest
+
+-- no entry of another core names a handle that core c holds there
+abbrev pub LeftAlone : ℕ → Past → Type 0
+LeftAlone c [] = Unit {0}
+LeftAlone c (e ∷ past) = (without_all (names e.what) (held past c) ≡ held past c ⊎ IsTrue (e.core.0 == c)) × LeftAlone c past
+
+pub part-held : (past : Past) (c : ℕ) → LeftAlone c past → held (part past c) c ≡ held past c
+part-held [] c alone = refl
+part-held (e ∷ past) c alone = by_test (part-held past c alone.1) (e.core.0 == c) refl alone.0
+  where
+    by_test : held (part past c) c ≡ held past c → (b : Bool) → (e.core.0 == c) ≡ b
+        → (without_all (names e.what) (held past c) ≡ held past c) ⊎ IsTrue b
+        → held (if b then e ∷ part past c else part past c) c
+        ≡ (if b then held_after e.what (context past c) (without_all (names e.what) (held past c)) else without_all (names e.what) (held past c))
+    by_test rest true mine either =
+        let same = part-context past c in
+        rw (mine, same, rest) refl
+    by_test rest false mine (inl kept) = rest ∙ sym kept
+    by_test rest false mine (inr is) = absurd cc

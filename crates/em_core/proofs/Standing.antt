@@ -184,10 +184,10 @@ module _ {W : Type 0} (k : Ghosts W) where
       })
 
   pub stands-ending : (run : CoreRun W) (now : W) (c : ℕ) (f : k.Fixed) (m : List Piece) (n : ℕ) (cells : Option Cells)
-      → k.fixed now ≡ k.fixed run.work → cells ≡ k.carried (k.state now)
+      → k.unanswered (k.state run.work) ≡ None → k.fixed now ≡ k.fixed run.work → cells ≡ k.carried (k.state now)
       → k.Moves (k.fixed run.work) (k.state run.work) Move.End (k.state now) → run.stage ≡ Stage.Open n
       → Stands k run c f m → Stands k (run_with run now (Stage.Ending cells) run.held) c f m
-  stands-ending run now c f m n cells same carried moves is stands =
+  stands-ending run now c f m n cells none same carried moves is stands =
       let at = at-open run c f m n is stands in
       stands-same run now (Stage.Ending cells) c f m same stands
       (record {
@@ -195,6 +195,7 @@ module _ {W : Type 0} (k : Ghosts W) where
         was = k.state run.work;
         is_open = at.is_open;
         reached = at.reached;
+        answered = none;
         ends = moved run c f m Move.End (k.state now) stands moves;
         carried = carried;
       })

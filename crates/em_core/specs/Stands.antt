@@ -45,12 +45,14 @@ module _ {W : Type 0} (k : Ghosts W) where
     pub no_end : IsTrue (is_no_end (k.unanswered now))
     pub words : n ≡ length (words_of (k.unanswered now))
 
-  -- from the state that it has reached the work has moved to its end, and these are its cells there
+  -- from the state that it has reached, in which each ask has its answer, the work has moved to its end, and these are
+  -- its cells there
   pub record IsOver (f : k.Fixed) (current : Option Context) (es : List Exchange) (now : k.State) (cells : Option Cells) : Type 0 where
     pub context : Context
     pub was : k.State
     pub is_open : current ≡ Some context
     pub reached : IsReached f context es was
+    pub answered : k.unanswered was ≡ None
     pub ends : k.Moves f was Move.End now
     pub carried : cells ≡ k.carried now
 

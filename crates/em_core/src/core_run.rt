@@ -117,7 +117,7 @@ impl<W: Work> CoreRun<W> {
         }
     }
 
-    /// The next step. A Take or an Ask that it answered before was followed by `told`, or a Take by `handed`.
+    /// The next step. Each Take or Ask that it answered before has had its reply by `told`, or a Take `handed`.
     pub fn next(&mut self) -> Step
         requires { unreplied W.Work self.old ≡ None }
         ensures steps { Steps W.Work self.old result self.new }
@@ -164,7 +164,9 @@ impl<W: Work> CoreRun<W> {
         &self.locals
     }
 
-    /// The reply to the last Take or Ask, which fits it. Today a context comes with no further events.
+    /// The reply to the last Take or Ask. To a Take it is a context, an acknowledgement, or `Idle`, `Quiet`, `Limit` or
+    /// `Halted`; to an Ask it is one that the ask may have. What a done ask spends are different handles that the open
+    /// context holds, and what is minted is none of them. Today a context comes with no further events.
     pub fn told(&mut self, reply: &Reply)
         requires fits { FitsStep (unreplied W.Work self.old) reply.now.answer }
         requires no_rest { ToldNoRest reply.now.answer }
@@ -229,7 +231,7 @@ impl<W: Work> CoreRun<W> {
         self.stage = Stage::Open(0);
     }
 
-    /// A take was refused, and the run goes on as if it had not been asked.
+    /// The last Take was refused: it comes again.
     pub fn handed(&mut self)
         requires { unreplied W.Work self.old ≡ Some TheStep.Take }
         ensures stands { (c : ℕ) (f : W.Fixed) (m : List Piece) → Stands W.Work self.old c f m → Stands W.Work self.new c f m }

@@ -38,4 +38,4 @@ returns-in-End-clause-stands g c d f m stands =
     let now = c.next.new.self in
     let at = open-free (k.unanswered (k.state run.work)) run.stage c.requires.open c.requires.unreplied in
     let moves = rw c.in-End.is at c.next.ensures.moves in
-    stands-ending k run now d f m at.words c.cells-cells.result c.next.ensures.fixed c.cells-cells.ensures moves at.is stands
+    stands-ending k run now d f m at.words c.cells-cells.result at.answered c.next.ensures.fixed c.cells-cells.ensures moves at.is stands
