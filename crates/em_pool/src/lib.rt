@@ -1,6 +1,7 @@
 //! The events of a run: their handles, who holds them, and where each one is.
 #![tactic(auto)]
 
+mod bits;
 mod free;
 mod older;
 pub mod place;

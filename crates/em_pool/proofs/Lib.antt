@@ -1,0 +1,3 @@
+pub mod OlderLemmas
+pub mod BitLemmas
+pub mod FreeLemmas
