@@ -1,3 +1,4 @@
 pub mod OlderLemmas
 pub mod BitLemmas
 pub mod FreeLemmas
+pub mod ListLemmas

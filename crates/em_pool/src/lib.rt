@@ -6,6 +6,7 @@ mod free;
 mod older;
 pub mod place;
 pub mod pools;
+mod shapes;
 pub mod slot;
 
 pub use place::{Place, Spend, Spent};
