@@ -2,3 +2,5 @@ pub mod OlderLemmas
 pub mod BitLemmas
 pub mod FreeLemmas
 pub mod ListLemmas
+pub mod Numbers
+pub mod Reading
