@@ -4,3 +4,7 @@ pub mod FreeLemmas
 pub mod ListLemmas
 pub mod Numbers
 pub mod Reading
+pub mod Slots
+pub mod Spending
+pub mod WholeLemmas
+pub mod Shifting

@@ -99,3 +99,14 @@ module _ {v : PoolState} {s : List Step} (stands : Stands v s) where
   rule_at-rule c w =
       rule-cases c w (minting s w) (spending s w) (is_minted v w) (place_at v (index_of w)) (spent_in v w) (stands.minted w) (stands.spent w)
       (unspent-place w)
+
+usable-cases : (b : Bool) (o : Option Fault) (w : ℕ) → (if b then o else Some (Fault.NeverMinted w)) ≡ None → b ≡ true
+usable-cases true o w e = refl
+usable-cases false o w e = absurd (cc e)
+
+-- a word that may be used is a handle of an event of the pools
+pub usable-minted : (v : PoolState) (c w : ℕ) → rule_at v c w ≡ None → is_minted v w ≡ true
+usable-minted v c w e = usable-cases (is_minted v w) (rule_by c (place_at v (index_of w)) (spent_in v w)) w e
+
+pub minted-within : (v : PoolState) (w : ℕ) → is_minted v w ≡ true → index_of w < length v.slots
+minted-within v w e = within_slots v (index_of w) (let m = is_minted-parts v w e in let a = m.some in let b = m.up in omega arith)

@@ -35,15 +35,15 @@ pub struct Pools {
 
 impl Model for Pools {
     ghost use Rattle.em_pool.specs.State.{PoolState, state_code};
-    ghost use Rattle.em_pool.specs.Whole.{pool_state, IsWhole};
+    ghost use Rattle.em_pool.specs.Whole.{IsWhole};
 
     ghost Value = { PoolState };
 
     ghost coded = { state_code };
 
-    ghost view = { pool_state };
+    ghost view = { λ a. record { pools = a.pools; slots = a.slots.items; older = a.older.spent; mintings = a.mintings; spare = a.spare } };
 
-    ghost invariant = { IsWhole };
+    ghost invariant = { λ a. IsWhole a.pools a.slots.items a.free a.mintings a.spare a.older.room };
 }
 
 impl Pools {
