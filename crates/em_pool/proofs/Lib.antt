@@ -8,3 +8,4 @@ pub mod Slots
 pub mod Spending
 pub mod WholeLemmas
 pub mod Shifting
+pub mod Minting

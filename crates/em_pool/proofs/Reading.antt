@@ -56,7 +56,7 @@ not_minted-from v h lt =
     and-right (nat_le 1 (generation_of h)) (nat_le (generation_of h) (generation_at v (index_of h)))
     (lt-leb_not (generation_of h) (generation_at v (index_of h)) lt)
 
-none_from_map : (o : Option Spending) → option_map spent_of o ≡ None → o ≡ None
+pub none_from_map : (o : Option Spending) → option_map spent_of o ≡ None → o ≡ None
 none_from_map None e = refl
 none_from_map (Some x) e = absurd (cc e)
 

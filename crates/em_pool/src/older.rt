@@ -1,6 +1,7 @@
 //! How older handles were spent, found by the handle.
 ghost use Rattle.std.specs.Prelude.{◌≡◌, ℕ, ◌+◌, ◌<◌, ◌≤◌, OnOk, OnErr, None, Some};
 ghost use Rattle.std.specs.FinMap as map;
+ghost use Rattle.em_pool.specs.Changes.{older_by};
 
 use crate::place::Spent;
 use em_log::NoMemory;
@@ -51,8 +52,18 @@ impl Older {
         self.spent.get(&handle).copied()
     }
 
-    /// Adds a handle.
-    pub fn insert(&mut self, handle: u64, spent: Spent)
+    /// Adds a handle that was spent, if it was.
+    pub fn keep(&mut self, handle: u64, spent: Option<Spent>)
+        requires { 0 < self.old.room }
+        ensures spent { self.new.spent ≡ older_by self.old.spent handle spent }
+        ensures room { self.old.room ≤ self.new.room + 1 }
+    {
+        if let Some(spent) = spent {
+            self.insert(handle, spent);
+        }
+    }
+
+    fn insert(&mut self, handle: u64, spent: Spent)
         requires { 0 < self.old.room }
         ensures spent { self.new.spent ≡ map.insert self.old.spent handle spent }
         ensures room { self.old.room ≤ self.new.room + 1 }

@@ -133,9 +133,7 @@ impl Pools {
         ensures handle { result.0 ≡ handle_of (generation_at self.old index + 1) index }
     {
         let slot = &mut self.slots[usize::from(index)];
-        if let Some(spent) = slot.spent {
-            self.older.insert(handle(slot.generation, index).0, spent);
-        }
+        self.older.keep(handle(slot.generation, index).0, slot.spent);
         let generation = slot.generation + 1;
         *slot = Slot {
             generation,
