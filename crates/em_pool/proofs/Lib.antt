@@ -9,3 +9,4 @@ pub mod Spending
 pub mod WholeLemmas
 pub mod Shifting
 pub mod Minting
+pub mod Losing
