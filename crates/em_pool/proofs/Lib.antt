@@ -10,3 +10,5 @@ pub mod WholeLemmas
 pub mod Shifting
 pub mod Minting
 pub mod Losing
+pub mod FirstFree
+pub mod Opening

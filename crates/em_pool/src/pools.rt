@@ -13,7 +13,7 @@ ghost use Rattle.em_pool.specs.Changes.{opened, minted, spent, shifted, lost};
 use crate::free::FreeSet;
 use crate::older::Older;
 use crate::place::{Place, Spend, Spent, is_free, place_after};
-use crate::shapes::total;
+use crate::shapes::{bounds_of, total};
 use crate::slot::{Slot, fresh_slots, handle, lose_all, refusal_by};
 use em_log::{
     Config, CoreId, Declarations, Event, Fault, Handle, List as Items, NoMemory, PoolId, PoolShape, Words,
@@ -113,14 +113,16 @@ impl Pools {
         requires { pool.0 < length self.now.pools }
         ensures { result ≡ find (λ i. is_free_place (place_at self.now i)) (indices_of self.now.pools pool.0) }
     {
-        let pools = self.pools.as_slice();
-        let number = usize::from(pool.0);
-        let first = total(&pools[..number]);
-        let index = self.free.first_from(first)?;
-        if index < first + pools[number].events {
-            Some(index)
-        } else {
-            None
+        let (first, end) = bounds_of(self.pools.as_slice(), pool);
+        match self.free.first_from(first) {
+            None => None,
+            Some(index) => {
+                if index < end {
+                    Some(index)
+                } else {
+                    None
+                }
+            }
         }
     }
 
