@@ -12,3 +12,4 @@ pub mod Minting
 pub mod Losing
 pub mod FirstFree
 pub mod Opening
+pub mod Allocating
