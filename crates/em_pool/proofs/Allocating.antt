@@ -1,16 +1,14 @@
 -- What an alloc answers.
-use Rattle.std.proofs.Common.{◌≡◌, ℕ, zero, suc, ◌+◌, ◌<◌, ◌≤◌, Bool, true, false, nat_lt, nat_le, List, [], ◌∷◌, length, get_or, take, Option, Some, None, Result, Ok, Err, find, if◌then◌else◌, is_none, unwrap_or, arith, refl, ap, sym, ◌∙◌, subst, ⊎_elim}
+use Rattle.std.proofs.Common.{◌≡◌, ℕ, zero, suc, ◌+◌, ◌<◌, ◌≤◌, Bool, true, false, nat_lt, List, [], ◌∷◌, length, get_or, take, Some, None, Ok, Err, find, if◌then◌else◌, is_none, unwrap_or, arith, refl, ap, sym, ◌∙◌, subst}
 use Rattle.em_log.specs.declared.declarations.PoolShape.{PoolShape}
 use Rattle.em_log.specs.declared.fault.Fault.{Fault}
-use Rattle.em_log.specs.declared.ids.Handle.{Handle}
 use Rattle.em_log.specs.Declarations.{numbers_from, event_total}
 use Rattle.em_pool.specs.Steps.{Step}
 use Rattle.em_pool.specs.Handles.{next_handle}
-use Rattle.em_pool.specs.Places.{place, is_free, live, first_free, events_of, words_of, indices_of, alloc_refusal, alloc_handle, alloc_answer, handle_unless}
+use Rattle.em_pool.specs.Places.{place, is_free, live, first_free, events_of, words_of, indices_of, alloc_handle, alloc_answer, handle_unless}
 use Rattle.em_pool.specs.State.{PoolState, place_at}
 use Rattle.em_pool.specs.Stands.{Stands}
-use Rattle.em_pool.proofs.Numbers.{bool_cases, lt-leb_not}
-use Rattle.em_pool.proofs.FirstFree.{pool-within}
+use Rattle.em_pool.proofs.Numbers.{lt-leb_not}
 
 pub words-read : (ps : List PoolShape) (n : ℕ) (d : PoolShape) → n < length ps → words_of ps n ≡ (get_or ps n d).words
 words-read [] n d lt = absurd (omega arith)
@@ -59,15 +57,15 @@ answer-empty pools s p size le none =
     let all = all-live s (indices_of pools p) none ∙ length-numbers_from (events_of pools p) (event_total (take p pools)) in
     ap (λ f. handle_unless f (alloc_handle pools s p))
     ((λ k. if not_more (words_of pools p) size le k then Some (Fault.BadSize (words_of pools p))
-      else if is_none (none k) then Some (Fault.PoolEmpty (all k)) else None))
+    else if is_none (none k) then Some (Fault.PoolEmpty (all k)) else None))
 
 pub answer-minted : (pools : List PoolShape) (s : List Step) (p size i : ℕ) → size ≤ words_of pools p → first_free s (indices_of pools p) ≡ Some i
     → alloc_answer pools s p size ≡ Ok (record { 0 = next_handle s i })
 answer-minted pools s p size i le some =
     (λ k. handle_unless
-      (if not_more (words_of pools p) size le k then Some (Fault.BadSize (words_of pools p))
-        else if is_none (some k) then Some (Fault.PoolEmpty (live s (indices_of pools p))) else None)
-      (next_handle s (unwrap_or (some k) 0)))
+    (if not_more (words_of pools p) size le k then Some (Fault.BadSize (words_of pools p))
+    else if is_none (some k) then Some (Fault.PoolEmpty (live s (indices_of pools p))) else None)
+    (next_handle s (unwrap_or (some k) 0)))
 
 pub first-same : {v : PoolState} {s : List Step} → Stands v s → (is : List ℕ) → first_free s is ≡ find (λ i. is_free (place_at v i)) is
 first-same stands is = sym (λ k. find (λ i. is_free (stands.places i k)) is)

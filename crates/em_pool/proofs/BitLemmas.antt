@@ -1,5 +1,5 @@
 -- Bits of masked words of 64 bits.
-use Rattle.std.proofs.Common.{◌≡◌, ◌≢◌, ℕ, ◌+◌, ◌-◌, ◌*◌, ◌%◌, ◌^◌, ◌<◌, ◌≤◌, min, bit_and, arith, refl, ap, sym, ◌∙◌, subst, w64, ◌⊎◌, inl, inr, ⊎_elim, lit≤}
+use Rattle.std.proofs.Common.{◌≡◌, ℕ, ◌-◌, ◌*◌, ◌%◌, ◌^◌, ◌<◌, ◌≤◌, min, bit_and, arith, ap, sym, ◌∙◌, w64, ⊎_elim}
 use Rattle.std.specs.Int.{bit_at, trailing_zeros}
 use Rattle.std.proofs.lemmas.Bool.{cases_lt}
 use Rattle.std.proofs.lemmas.Nat.{and_le_l}
@@ -42,8 +42,8 @@ lowest n k fits le some =
     let small : rest n k < 18446744073709551616 = masked_fits n _ fits in
     let t = bit_at-trailing_zeros w64 (rest n k) some small in
     let from : k ≤ trailing_zeros w64 (rest n k) =
-        ⊎_elim (λ lt. absurd (let z = rest_low n k (trailing_zeros w64 (rest n k)) le lt in let o = t.1 in omega arith)) (λ ge. ge)
-        (cases_lt (trailing_zeros w64 (rest n k)) k) in
+    ⊎_elim (λ lt. absurd (let z = rest_low n k (trailing_zeros w64 (rest n k)) le lt in let o = t.1 in omega arith)) (λ ge. ge)
+    (cases_lt (trailing_zeros w64 (rest n k)) k) in
     record {
       from = from;
       below = t.0;

@@ -1,6 +1,6 @@
 -- The first free event of a pool.
-use Rattle.std.proofs.Common.{◌≡◌, ◌≢◌, ℕ, zero, suc, ◌+◌, ◌<◌, ◌≤◌, Bool, true, false, List, [], ◌∷◌, length, map, get_or, take, Option, Some, None, find, if◌then◌else◌, cond, arith, refl, ap, sym, ◌∙◌, subst, ⊎_elim, slice_get, zero-add}
-use Rattle.std.proofs.lemmas.Bool.{cases_eq, cases_lt}
+use Rattle.std.proofs.Common.{◌≡◌, ℕ, zero, suc, ◌+◌, ◌<◌, ◌≤◌, Bool, true, false, List, [], ◌∷◌, length, map, get_or, take, Some, None, find, if◌then◌else◌, arith, refl, ap, sym, ◌∙◌, subst, ⊎_elim}
+use Rattle.std.proofs.lemmas.Bool.{cases_eq}
 use Rattle.em_log.specs.declared.declarations.PoolShape.{PoolShape}
 use Rattle.em_log.specs.Declarations.{numbers_from, event_total}
 use Rattle.em_pool.specs.declared.slot.Slot.{Slot}

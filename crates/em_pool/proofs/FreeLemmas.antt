@@ -1,11 +1,10 @@
 -- Sets of indices in words of 64 bits.
-use Rattle.std.proofs.Common.{◌≡◌, ◌≢◌, ℕ, zero, suc, ◌+◌, ◌-◌, ◌*◌, ◌/◌, ◌%◌, ◌^◌, ◌<◌, ◌≤◌, Bool, true, false, not, cond, ◌==◌, if◌then◌else◌, List, [], ◌∷◌, ◌++◌, map, length, get_or, set, slice_index, slice_index_or, slice_set, replicate, arith, Option, Some, None, refl, ap, sym, ◌∙◌, subst, ⊎_elim, inl, inr, ◌⊎◌, zero-add, length-set, get_or-set_same, get_or-set_other}
+use Rattle.std.proofs.Common.{◌≡◌, ◌≢◌, ℕ, zero, suc, ◌+◌, ◌-◌, ◌*◌, ◌/◌, ◌%◌, ◌<◌, ◌≤◌, Bool, true, false, not, ◌==◌, if◌then◌else◌, List, [], ◌∷◌, ◌++◌, map, length, get_or, set, slice_index, replicate, arith, Option, Some, None, refl, ap, sym, ◌∙◌, subst, ⊎_elim, inl, inr, ◌⊎◌, zero-add, length-set, get_or-set_same, get_or-set_other}
 use Rattle.std.specs.Int.{bit_at}
 use Rattle.std.proofs.lemmas.Bool.{cases_lt, cases_eq, eq-eqb, eqb-true}
-use Rattle.std.proofs.lemmas.Bool.Decides.{eqb_tells}
 use Rattle.std.proofs.lemmas.List.{same_lists, get_or_past, get_or_read, get_or-replicate, length-replicate, set_at, replicate_more, append_assoc}
 use Rattle.std.proofs.lemmas.Nat.Bits.{bit_at-lt, bit_at-zero, same_from_bits}
-use Rattle.em_log.specs.Declarations.{numbers_from, below}
+use Rattle.em_log.specs.Declarations.{numbers_from}
 use Rattle.em_pool.specs.Free.{is_member, AreSummed, IsFirst, IsSummed, members}
 
 pub length-numbers : {B : Type 0} (f : ℕ → B) (n a : ℕ) → length (map f (numbers_from a n)) ≡ n
@@ -92,15 +91,15 @@ put-summed size words i is_in v u s put lt same others =
       within = λ j past. let ne : j ≢ i = (λ e. absurd (omega arith)) in bit-put_other words i is_in v j put within ne ∙ s.within j past;
       summed = record {
         empty = λ w none. ⊎_elim
-        (λ e. ap (λ m. slice_index (set words (i / 64) v) m) e
-        ∙ (get_or-set_same words (i / 64) v 0 within ∙ is_nonzero v (v == 0) refl (sym same ∙ (ap (bit_at u) (sym e) ∙ none))))
-        (λ ne. get_or-set_other words (i / 64) w v 0 ne ∙ s.summed.empty w (sym (others w ne) ∙ none))
-        (cases_eq w (i / 64));
+            (λ e. ap (λ m. slice_index (set words (i / 64) v) m) e
+            ∙ (get_or-set_same words (i / 64) v 0 within ∙ is_nonzero v (v == 0) refl (sym same ∙ (ap (bit_at u) (sym e) ∙ none))))
+            (λ ne. get_or-set_other words (i / 64) w v 0 ne ∙ s.summed.empty w (sym (others w ne) ∙ none))
+            (cases_eq w (i / 64));
         nonempty = λ w some. ⊎_elim
-        (λ e. let p = is_positive v (v == 0) refl (sym same ∙ (ap (bit_at u) (sym e) ∙ some)) in
-        let g = ap (λ m. slice_index (set words (i / 64) v) m) e ∙ get_or-set_same words (i / 64) v 0 within in omega arith)
-        (λ ne. let p = s.summed.nonempty w (sym (others w ne) ∙ some) in let g = get_or-set_other words (i / 64) w v 0 ne in omega arith)
-        (cases_eq w (i / 64));
+            (λ e. let p = is_positive v (v == 0) refl (sym same ∙ (ap (bit_at u) (sym e) ∙ some)) in
+            let g = ap (λ m. slice_index (set words (i / 64) v) m) e ∙ get_or-set_same words (i / 64) v 0 within in omega arith)
+            (λ ne. let p = s.summed.nonempty w (sym (others w ne) ∙ some) in let g = get_or-set_other words (i / 64) w v 0 ne in omega arith)
+            (cases_eq w (i / 64));
       };
     }
 
@@ -131,11 +130,12 @@ none_in_zero words k e = not_member words k (ap (λ x. bit_at x (k % 64)) e ∙ 
 -- the first index of a word, from a bit on
 pub found_in_word : (words : List ℕ) (from b : ℕ) → from % 64 ≤ b → b < 64 → bit_at (slice_index words (from / 64)) b ≡ 1
     → ((i : ℕ) → from % 64 ≤ i → i < b → bit_at (slice_index words (from / 64)) i ≡ 0) → IsFirst (is_member words) from (Some (from / 64 * 64 + b))
-found_in_word words from b ge lt one least =
-    ( omega arith
-    , is_member-at words (from / 64) b lt ∙ ap (λ c. c == 1) one
-    , λ k le below. let w : k / 64 ≡ from / 64 = omega arith in
-      not_member words k (ap (λ v. bit_at (slice_index words v) (k % 64)) w ∙ least (k % 64) (omega arith) (omega arith)) )
+found_in_word words from b ge lt one least = (
+  omega arith,
+  is_member-at words (from / 64) b lt ∙ ap (λ c. c == 1) one,
+  λ k le below. let w : k / 64 ≡ from / 64 = omega arith in
+      not_member words k (ap (λ v. bit_at (slice_index words v) (k % 64)) w ∙ least (k % 64) (omega arith) (omega arith)),
+)
 
 -- a word without such a bit has none
 pub none_in_word : (words : List ℕ) (from k : ℕ) → ((i : ℕ) → from % 64 ≤ i → bit_at (slice_index words (from / 64)) i ≡ 0)
@@ -163,10 +163,11 @@ none_before words summary from v s here later k le lt =
 pub first_later : (test : ℕ → Bool) (from a : ℕ) (r : Option ℕ) → from ≤ a → ((k : ℕ) → from ≤ k → k < a → test k ≡ false)
     → IsFirst test a r → IsFirst test from r
 first_later test from a None le before first = λ k ge. ⊎_elim (λ lt. before k ge lt) (λ more. first k more) (cases_lt k a)
-first_later test from a (Some i) le before first =
-    ( omega (arith, first.0)
-    , first.1
-    , λ k ge lt. ⊎_elim (λ b. before k ge b) (λ more. first.2 k more lt) (cases_lt k a) )
+first_later test from a (Some i) le before first = (
+  omega (arith, first.0),
+  first.1,
+  λ k ge lt. ⊎_elim (λ b. before k ge b) (λ more. first.2 k more lt) (cases_lt k a),
+)
 
 pub same_first : (f g : ℕ → Bool) (a : ℕ) (r : Option ℕ) → ((k : ℕ) → f k ≡ g k) → IsFirst f a r → IsFirst g a r
 same_first f g a None is first = λ k le. sym (is k) ∙ first k le

@@ -1,5 +1,5 @@
 -- After all that a core holds is lost, the pools stand for one step more.
-use Rattle.std.proofs.Common.{◌≡◌, ◌≢◌, ℕ, zero, suc, ◌+◌, ◌<◌, ◌≤◌, Bool, true, false, ◌==◌, ◌&&◌, nat_le, Option, Some, None, is_some, List, [], ◌∷◌, length, get_or, map, count_by, if◌then◌else◌, cond, arith, refl, ap, sym, ◌∙◌, subst, ⊎_elim}
+use Rattle.std.proofs.Common.{◌≡◌, ℕ, zero, suc, ◌≤◌, Bool, true, false, ◌==◌, ◌&&◌, nat_le, Option, Some, None, is_some, List, [], ◌∷◌, length, get_or, map, if◌then◌else◌, arith, refl, ap, sym, ◌∙◌, subst, ⊎_elim}
 use Rattle.std.specs.Option.{option_map, option_or}
 use Rattle.std.specs.FinMap as finite
 use Rattle.std.proofs.lemmas.Bool.{leb-true, le-leb}
@@ -8,7 +8,7 @@ use Rattle.em_log.specs.Handles.{Minting}
 use Rattle.em_pool.specs.declared.place.Place.{Place}
 use Rattle.em_pool.specs.declared.slot.Slot.{Slot}
 use Rattle.em_pool.specs.Steps.{Step, Lost, held}
-use Rattle.em_pool.specs.Handles.{Spending, minting, spending, losing, last_handle, last_event}
+use Rattle.em_pool.specs.Handles.{minting, spending, losing, last_handle, last_event}
 use Rattle.em_pool.specs.Places.{shift, place, place_by, place_of, is_held, is_free}
 use Rattle.em_pool.specs.State.{PoolState, fresh, slot_at, generation_at, place_at, generation_of, last_handle_in, event_in, is_minted, is_last, spent_in, spent_at, holds, is_held_by, is_slot_held_by, held_count}
 use Rattle.em_pool.specs.Stands.{Stands, spent_of}
@@ -126,7 +126,7 @@ module _ {v : PoolState} {s : List Step} (stands : Stands v s) (c p : ℕ) (few 
       (λ k. if minted-same h k then (if last-same h k then (slot_at (lost v c p) (index_of h)).spent else finite.get v.older h) else None)
       ∙ ⊎_elim
       (λ t. let apart : is_slot_held_by c (slot_at v (index_of h)) ≡ false =
-        sym (ap (λ b. b && is_held_by c (place_at v (index_of h))) t) ∙ f in
+      sym (ap (λ b. b && is_held_by c (place_at v (index_of h))) t) ∙ f in
       ap (λ (sl : Slot). if is_minted v h then (if is_last v h then sl.spent else finite.get v.older h) else None)
       (slot_at-lost (index_of h) ∙ ap (λ b. if b then lost_now p (slot_at v (index_of h)) else slot_at v (index_of h)) apart))
       (λ f2. ap (λ b. if is_minted v h then (if b then (slot_at (lost v c p) (index_of h)).spent else finite.get v.older h) else None) f2
@@ -139,7 +139,7 @@ module _ {v : PoolState} {s : List Step} (stands : Stands v s) (c p : ℕ) (few 
       (λ t. let parts = both (is_last v h) (is_held_by c (place_at v (index_of h))) t in
       ap (option_map spent_of) (spending-lost h t)
       ∙ sym ((λ k. if (minted-same h ∙ holds-minted h t) k
-        then (if (last-same h ∙ parts.0) k then (slot_at (lost v c p) (index_of h)).spent else finite.get v.older h) else None)
+      then (if (last-same h ∙ parts.0) k then (slot_at (lost v c p) (index_of h)).spent else finite.get v.older h) else None)
       ∙ ap (λ (sl : Slot). sl.spent)
       (slot_at-lost (index_of h) ∙ ap (λ b. if b then lost_now p (slot_at v (index_of h)) else slot_at v (index_of h)) parts.1)))
       (λ f. ap (option_map spent_of) (spending-kept h f) ∙ (stands.spent h ∙ sym (spent-kept h f)))
@@ -152,10 +152,10 @@ module _ {v : PoolState} {s : List Step} (stands : Stands v s) (c p : ℕ) (few 
       let some = held-generation j (held-by c (place_at v j) t) in
       let lt = within_slots v j some in
       let is : Some h ≡ Some (handle_of (generation_at v j) j) =
-        sym e ∙ (stands.last j ∙ ap (λ b. if b then Some (handle_of (generation_at v j) j) else None) (le-leb 1 (generation_at v j) some)) in
+      sym e ∙ (stands.last j ∙ ap (λ b. if b then Some (handle_of (generation_at v j) j) else None) (le-leb 1 (generation_at v j) some)) in
       let parts : h ≡ handle_of (generation_at v j) j = cc is in
       let g : generation_of h ≡ generation_at v (index_of h) =
-        ap generation_of parts ∙ (generation-handle (generation_at v j) j (omega arith) ∙ ap (generation_at v) (sym at)) in
+      ap generation_of parts ∙ (generation-handle (generation_at v j) j (omega arith) ∙ ap (generation_at v) (sym at)) in
       (λ k. eq_test (generation_of h) (generation_at v (index_of h)) g k && (ap (λ n. is_held_by c (place_at v n)) at ∙ t) k)
 
   place-lost : (j : ℕ) → is_held_by c (place_at v j) ≡ true → (o : Option ℕ) → last_handle s j ≡ o → place_by (Lost c p ∷ s) j o ≡ Place.Lost
@@ -199,9 +199,9 @@ module _ {v : PoolState} {s : List Step} (stands : Stands v s) (c p : ℕ) (few 
     events = each (λ j sl. last_event s j ≡ event_in sl j) (λ j _. stands.events j) (λ j _. stands.events j);
     spent = the_spent;
     outlived = λ h m f. some_or (spending s h) (if has (held s c) h then Some (losing p) else None)
-      (stands.outlived h (sym (minted-same h) ∙ m) (sym (last-same h) ∙ f));
+        (stands.outlived h (sym (minted-same h) ∙ m) (sym (last-same h) ∙ f));
     places = each (λ j sl. sl.place ≡ place (Lost c p ∷ s) j) (λ j t. sym (place-lost j t (last_handle s j) refl))
-      (λ j f. stands.places j ∙ sym (place-kept j f (last_handle s j) refl));
+        (λ j f. stands.places j ∙ sym (place-kept j f (last_handle s j) refl));
     unspent = each (λ j sl. is_held sl.place ≡ true → sl.spent ≡ None) (λ j _ t. absurd (cc t)) (λ j _. stands.unspent j);
     unshifted = each (λ j sl. is_held sl.place ≡ true → shift s j ≡ None) (λ j _ t. absurd (cc t)) (λ j _. stands.unshifted j);
     held_once = λ d h. the_held d h (c == d) refl;

@@ -1,12 +1,11 @@
 -- After a handle is minted, the pools stand for one step more.
-use Rattle.std.proofs.Common.{◌≡◌, ◌≢◌, ℕ, suc, ◌+◌, ◌<◌, ◌≤◌, Bool, true, false, ◌==◌, ◌&&◌, nat_le, Option, Some, None, is_some, List, [], ◌∷◌, ◌++◌, length, get_or, set, count_by, if◌then◌else◌, cond, arith, refl, ap, sym, ◌∙◌, subst, ⊎_elim, add-one, length-append}
-use Rattle.std.specs.Option.{option_map, option_and_then, option_or}
+use Rattle.std.proofs.Common.{◌≡◌, ◌≢◌, ℕ, suc, ◌+◌, ◌<◌, ◌≤◌, Bool, true, false, ◌==◌, ◌&&◌, nat_le, Option, Some, None, is_some, List, [], ◌∷◌, ◌++◌, length, if◌then◌else◌, cond, arith, refl, ap, sym, ◌∙◌, subst, ⊎_elim, add-one, length-append}
+use Rattle.std.specs.Option.{option_map, option_and_then}
 use Rattle.std.specs.FinMap as finite
 use Rattle.std.specs.Cmp.{nat_cmp_total, unsigned_tied}
 use Rattle.std.specs.Ordering.{nat_cmp, eq_by_cmp}
 use Rattle.std.proofs.lemmas.Bool.{cases_eq, le-leb}
 use Rattle.std.proofs.lemmas.Bool.Decides.{leb_tells}
-use Rattle.em_log.specs.declared.entry.Event.{Event}
 use Rattle.em_log.specs.History.{handle_of, index_of}
 use Rattle.em_log.specs.Handles.{Minting}
 use Rattle.em_log.specs.Leads.{event_with}
@@ -19,9 +18,9 @@ use Rattle.em_pool.specs.Handles.{Spending, generation, minting, spending, last_
 use Rattle.em_pool.specs.Places.{shift, place, place_by, place_of, is_free, is_held, is_mintable}
 use Rattle.em_pool.specs.State.{PoolState, fresh, slot_at, generation_at, place_at, generation_of, last_handle_in, event_in, is_minted, is_last, spent_in, spent_at, holds, is_held_by, is_slot_held_by, held_count}
 use Rattle.em_pool.specs.Stands.{Stands, spent_of}
-use Rattle.em_pool.specs.Changes.{with_slot, minted, minted_slot, older_by, older_with}
+use Rattle.em_pool.specs.Changes.{minted, minted_slot, older_by, older_with}
 use Rattle.em_pool.proofs.Numbers.{eq_test, ne_test, from_test, index-handle, generation-handle, handle-parts, same_handle, lt-leb_not, or-none, times, times-push, count_by-set, bool_cases, and-left, and-right}
-use Rattle.em_pool.proofs.Reading.{last_handle-index, IsMinted, is_minted-parts, is_minted-from, not_minted-from, none_from_map, unspent-place}
+use Rattle.em_pool.proofs.Reading.{last_handle-index, is_minted-from, not_minted-from, none_from_map, unspent-place}
 use Rattle.em_pool.proofs.Slots.{at_each, at_same, at_other}
 use Rattle.em_pool.proofs.Spending.{not_held_by}
 
@@ -168,14 +167,14 @@ module _ {v : PoolState} {s : List Step} (stands : Stands v s) (c i kind : ℕ) 
       ⊎_elim
       (λ g. let gi : generation_of h ≡ generation_at v i = from_test (generation_of h) (generation_at v (index_of h)) g ∙ ap (generation_at v) e in
       let mine : (slot_at v i).spent ≡ spent_in v h =
-        ap (λ j. (slot_at v j).spent) (sym e) ∙ sym (ap (λ b. if b then (slot_at v (index_of h)).spent else finite.get v.older h) g) in
+      ap (λ j. (slot_at v j).spent) (sym e) ∙ sym (ap (λ b. if b then (slot_at v (index_of h)).spent else finite.get v.older h) g) in
       older_by-same v.older (handle_of (generation_at v i) i) h (slot_at v i).spent (key-is h e gi)
       (λ none. last-spent h m e (none_from_map (spending s h)
       (stands.spent h ∙ (ap (λ b. if b then spent_in v h else None) m ∙ (sym mine ∙ none)))))
       ∙ mine)
       (λ f. older_by-other v.older (handle_of (generation_at v i) i) h (slot_at v i).spent
       (λ same. let g : generation_of h ≡ generation_at v (index_of h) =
-        ap generation_of same ∙ (generation-handle (generation_at v i) i (omega arith) ∙ ap (generation_at v) (sym e)) in
+      ap generation_of same ∙ (generation-handle (generation_at v i) i (omega arith) ∙ ap (generation_at v) (sym e)) in
       let t = eq_test (generation_of h) (generation_at v (index_of h)) g in absurd (cc))
       ∙ sym (ap (λ b. if b then (slot_at v (index_of h)).spent else finite.get v.older h) f))
       (bool_cases (is_last v h))
@@ -308,9 +307,9 @@ module _ {v : PoolState} {s : List Step} (stands : Stands v s) (c i kind : ℕ) 
   the_count d b is_d =
       let all : length (held s d) ≡ held_count v d = stands.held_counts d in
       let put : held_count (minted v c i kind words) d + (if is_held_by d (place_at v i) then 1 else 0) ≡ held_count v d + (if c == d then 1 else 0) =
-        count_by-set (is_slot_held_by d) v.slots i (minted_slot c (generation_at v i) kind words) fresh lt in
+      count_by-set (is_slot_held_by d) v.slots i (minted_slot c (generation_at v i) kind words) fresh lt in
       let was : ◌≡◌ {A = ℕ} (if is_held_by d (place_at v i) then 1 else 0) 0 =
-        ap (λ (b : Bool). if b then 1 else 0) (not_held_by d (place_at v i) unheld) in
+      ap (λ (b : Bool). if b then 1 else 0) (not_held_by d (place_at v i) unheld) in
       let now : ◌≡◌ {A = ℕ} (if c == d then 1 else 0) (if b then 1 else 0) = ap (λ (b : Bool). if b then 1 else 0) is_d in
       let len = pushed b (held s d) in omega arith
     where
@@ -322,10 +321,10 @@ module _ {v : PoolState} {s : List Step} (stands : Stands v s) (c i kind : ℕ) 
   minted-stands = record {
     count = ap (λ n. n + 1) stands.count ∙ add-one _;
     generations = at_each v i (minted_slot c (generation_at v i) kind words) lt
-      (λ j sl. sl.generation ≡ (if index_of N == j then suc (generation s j) else generation s j))
-      (ap (λ n. suc n) (stands.generations i) ∙ sym (ap (λ b. if b then suc (generation s i) else generation s i) (eq_test (index_of N) i N-index)))
-      (λ j ne. stands.generations j
-      ∙ sym (ap (λ b. if b then suc (generation s j) else generation s j) (ne_test (index_of N) j (λ e. ne (sym e ∙ N-index)))));
+        (λ j sl. sl.generation ≡ (if index_of N == j then suc (generation s j) else generation s j))
+        (ap (λ n. suc n) (stands.generations i) ∙ sym (ap (λ b. if b then suc (generation s i) else generation s i) (eq_test (index_of N) i N-index)))
+        (λ j ne. stands.generations j
+        ∙ sym (ap (λ b. if b then suc (generation s j) else generation s j) (ne_test (index_of N) j (λ e. ne (sym e ∙ N-index)))));
     last = the_last;
     minted = the_minted;
     events = the_event;
@@ -333,10 +332,10 @@ module _ {v : PoolState} {s : List Step} (stands : Stands v s) (c i kind : ℕ) 
     outlived = the_outlived;
     places = the_place;
     unspent = at_each v i (minted_slot c (generation_at v i) kind words) lt (λ j sl. is_held sl.place ≡ true → sl.spent ≡ None) (λ _. refl)
-      (λ j ne. stands.unspent j);
+        (λ j ne. stands.unspent j);
     unshifted = at_each v i (minted_slot c (generation_at v i) kind words) lt
-      (λ j sl. is_held sl.place ≡ true → shift (Minted c (event_with N kind words) ∷ s) j ≡ None) (λ _. shift-of_i)
-      (λ j ne t. shift-other j ne ∙ stands.unshifted j t);
+        (λ j sl. is_held sl.place ≡ true → shift (Minted c (event_with N kind words) ∷ s) j ≡ None) (λ _. shift-of_i)
+        (λ j ne t. shift-other j ne ∙ stands.unshifted j t);
     held_once = λ d h. the_held d h (c == d) refl;
     held_counts = λ d. the_count d (c == d) refl;
   }

@@ -1,8 +1,7 @@
 -- A look-up in the entries of a hash map, as one in a finite map.
-use Rattle.std.proofs.Common.{◌≡◌, ℕ, Bool, true, false, cond, ◌==◌, List, [], ◌∷◌, Option, Some, None, Result, Ok, Err, is_ok, OnOk, refl, ap, sym, ◌∙◌}
+use Rattle.std.proofs.Common.{◌≡◌, ℕ, true, cond, ◌==◌, List, [], ◌∷◌, Some, Result, Ok, Err, is_ok, OnOk, refl, sym, ◌∙◌}
 use Rattle.std.specs.Cmp.{nat_cmp_total, unsigned_ties, nat_eq_equiv}
-use Rattle.std.specs.FinMap.{FinMap, find, get, insert, from_entries, get-from_entries, get-insert, same_map, nat_cmp-IsAntisymmetric}
-use Rattle.std.specs.HashMap.{HashMap, get as hash_get}
+use Rattle.std.specs.FinMap.{find, get, insert, from_entries, get-from_entries, get-insert, same_map, nat_cmp-IsAntisymmetric}
 use Rattle.std.specs.Map.{lookup}
 use Rattle.std.specs.Ordering.{nat_cmp, eq_by_cmp}
 use Rattle.em_pool.specs.declared.place.Spent.{Spent}

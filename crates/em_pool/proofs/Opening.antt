@@ -1,6 +1,5 @@
 -- Pools of which no handle was minted stand for no steps.
-use Rattle.std.proofs.Common.{◌≡◌, ℕ, zero, suc, ◌+◌, ◌<◌, ◌≤◌, Bool, true, false, ◌&&◌, nat_le, Option, Some, None, is_some, List, [], ◌∷◌, length, get_or, replicate, map, count_by, if◌then◌else◌, cond, arith, refl, ap, sym, ◌∙◌, subst, ⊎_elim}
-use Rattle.std.specs.FinMap as finite
+use Rattle.std.proofs.Common.{◌≡◌, ℕ, zero, suc, ◌≤◌, Bool, true, false, nat_le, None, List, [], ◌∷◌, length, get_or, replicate, map, count_by, if◌then◌else◌, cond, arith, refl, ap, sym, ◌∙◌, subst, ⊎_elim}
 use Rattle.std.proofs.lemmas.Bool.{leb-true}
 use Rattle.std.proofs.lemmas.List.{length-replicate}
 use Rattle.std.proofs.lemmas.List.Sums.{sum_by-cons}
@@ -8,8 +7,7 @@ use Rattle.em_log.specs.declared.declarations.PoolShape.{PoolShape}
 use Rattle.em_log.specs.Declarations.{event_total}
 use Rattle.em_log.specs.History.{index_of}
 use Rattle.em_pool.specs.declared.slot.Slot.{Slot}
-use Rattle.em_pool.specs.Places.{is_held}
-use Rattle.em_pool.specs.State.{PoolState, fresh, slot_at, generation_at, place_at, generation_of, last_handle_in, is_minted, is_last, spent_in, event_in, is_held_by, is_slot_held_by}
+use Rattle.em_pool.specs.State.{fresh, slot_at, generation_at, place_at, generation_of, last_handle_in, is_minted, is_last, spent_in, event_in, is_held_by, is_slot_held_by}
 use Rattle.em_pool.specs.Stands.{Stands}
 use Rattle.em_pool.specs.Changes.{opened}
 use Rattle.em_pool.specs.Whole.{IsWhole, is_free_slot}
@@ -49,8 +47,8 @@ module _ (pools : List PoolShape) where
     unspent = λ j t. ap (λ (sl : Slot). sl.spent) (at j);
     unshifted = λ j t. refl;
     held_once = λ c h. sym (ap (λ (b : Bool). if b then 1 else 0)
-      (and-right (is_last (opened pools) h) (is_held_by c (place_at (opened pools) (index_of h)))
-      (ap (λ (sl : Slot). is_held_by c sl.place) (at (index_of h)))));
+        (and-right (is_last (opened pools) h) (is_held_by c (place_at (opened pools) (index_of h)))
+        (ap (λ (sl : Slot). is_held_by c sl.place) (at (index_of h)))));
     held_counts = λ c. sym (none-held c (event_total pools));
   }
 

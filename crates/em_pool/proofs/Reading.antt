@@ -1,24 +1,21 @@
 -- What is read off the values of the pools is what the steps say.
-use Rattle.std.proofs.Common.{◌≡◌, ◌≢◌, ℕ, suc, ◌+◌, ◌<◌, ◌≤◌, Bool, true, false, ◌==◌, ◌&&◌, nat_le, Option, Some, None, is_some, List, [], ◌∷◌, length, get_or, set, if◌then◌else◌, cond, arith, refl, ap, sym, ◌∙◌, subst, ◌⊎◌, inl, inr, ⊎_elim}
-use Rattle.std.specs.Option.{option_map, option_and_then, option_or}
-use Rattle.std.specs.FinMap as finite
-use Rattle.std.proofs.lemmas.Bool.{cases_eq, cases_lt}
+use Rattle.std.proofs.Common.{◌≡◌, ℕ, ◌<◌, ◌≤◌, Bool, true, false, ◌==◌, ◌&&◌, nat_le, Option, Some, None, is_some, List, [], ◌∷◌, length, if◌then◌else◌, arith, refl, ap, sym, ◌∙◌, subst, ⊎_elim}
+use Rattle.std.specs.Option.{option_map}
+use Rattle.std.proofs.lemmas.Bool.{cases_lt}
 use Rattle.std.proofs.lemmas.Bool.{leb-true, le-leb}
 use Rattle.std.proofs.lemmas.List.{get_or_past}
-use Rattle.std.proofs.Common.{get_or-set_same, get_or-set_other}
 use Rattle.em_log.specs.declared.fault.Fault.{Fault}
-use Rattle.em_log.specs.declared.entry.Event.{Event}
 use Rattle.em_log.specs.History.{handle_of, index_of}
-use Rattle.em_log.specs.Handles.{Minting, last_handle_by}
+use Rattle.em_log.specs.Handles.{Minting}
 use Rattle.em_pool.specs.declared.place.Place.{Place}
 use Rattle.em_pool.specs.declared.place.Spent.{Spent as SpentRecord}
 use Rattle.em_pool.specs.declared.slot.Slot.{Slot}
 use Rattle.em_pool.specs.Steps.{Step, Minted, Spent, Shifted, Lost}
 use Rattle.em_pool.specs.Handles.{Spending, minting, spending, last_handle, rule, rule_of}
-use Rattle.em_pool.specs.Places.{shift, place, place_by, place_of, is_held, is_free}
-use Rattle.em_pool.specs.State.{PoolState, fresh, slot_at, generation_at, place_at, generation_of, last_handle_in, is_minted, is_last, spent_in, spent_at, holds, is_held_by, rule_at, rule_by}
+use Rattle.em_pool.specs.Places.{shift, place_by, place_of}
+use Rattle.em_pool.specs.State.{PoolState, fresh, generation_at, place_at, generation_of, is_minted, is_last, spent_in, rule_at, rule_by}
 use Rattle.em_pool.specs.Stands.{Stands, spent_of}
-use Rattle.em_pool.proofs.Numbers.{bool_cases, eq_test, from_test, handle-parts, some_or, both, and-right, lt-leb_not}
+use Rattle.em_pool.proofs.Numbers.{bool_cases, from_test, handle-parts, both, and-right, lt-leb_not}
 
 -- the index of a last handle
 pub last_handle-index : (s : List Step) (j h : ℕ) → last_handle s j ≡ Some h → index_of h ≡ j

@@ -1,15 +1,14 @@
 -- After an event is shifted, the pools stand for one step more.
-use Rattle.std.proofs.Common.{◌≡◌, ◌≢◌, ℕ, ◌+◌, ◌<◌, ◌≤◌, Bool, true, false, ◌==◌, ◌&&◌, Option, Some, None, is_some, List, [], ◌∷◌, length, get_or, set, count_by, if◌then◌else◌, cond, arith, refl, ap, sym, ◌∙◌, subst, ⊎_elim, unwrap_or}
-use Rattle.std.specs.Option.{option_map, option_or}
+use Rattle.std.proofs.Common.{◌≡◌, ◌≢◌, ℕ, ◌+◌, ◌<◌, Bool, true, false, ◌&&◌, Option, Some, None, is_some, List, ◌∷◌, length, if◌then◌else◌, arith, refl, ap, sym, ◌∙◌}
+use Rattle.std.specs.Option.{option_map}
 use Rattle.std.specs.FinMap as finite
 use Rattle.em_log.specs.History.{index_of}
 use Rattle.em_log.specs.Handles.{Minting}
 use Rattle.em_pool.specs.declared.place.Place.{Place}
-use Rattle.em_pool.specs.declared.slot.Slot.{Slot}
 use Rattle.em_pool.specs.Steps.{Step, Shifted, held}
 use Rattle.em_pool.specs.Handles.{Spending, minting, spending, last_handle, last_event}
 use Rattle.em_pool.specs.Places.{shift, place, place_by, place_of, is_held, can_shift, is_shift_target}
-use Rattle.em_pool.specs.State.{PoolState, fresh, slot_at, generation_at, place_at, last_handle_in, event_in, is_minted, is_last, spent_at, holds, is_held_by, is_slot_held_by, held_count}
+use Rattle.em_pool.specs.State.{PoolState, fresh, slot_at, place_at, last_handle_in, event_in, is_held_by, is_slot_held_by, held_count}
 use Rattle.em_pool.specs.Stands.{Stands, spent_of}
 use Rattle.em_pool.specs.Changes.{with_slot, shifted, shifted_slot}
 use Rattle.em_pool.proofs.Numbers.{eq_test, ne_test, or-none, count_by-set}
@@ -73,11 +72,11 @@ module _ {v : PoolState} {s : List Step} (stands : Stands v s) (i : ℕ) (to : P
   the_count d =
       let all : length (held s d) ≡ held_count v d = stands.held_counts d in
       let put : held_count (shifted v i to) d + (if is_held_by d (place_at v i) then 1 else 0) ≡ held_count v d + (if is_held_by d to then 1 else 0) =
-        count_by-set (is_slot_held_by d) v.slots i (shifted_slot to (slot_at v i)) fresh lt in
+      count_by-set (is_slot_held_by d) v.slots i (shifted_slot to (slot_at v i)) fresh lt in
       let gone : ◌≡◌ {A = ℕ} (if is_held_by d to then 1 else 0) 0 =
-        ap (λ (b : Bool). if b then 1 else 0) (not_held_by d to (unheld_target to target)) in
+      ap (λ (b : Bool). if b then 1 else 0) (not_held_by d to (unheld_target to target)) in
       let was : ◌≡◌ {A = ℕ} (if is_held_by d (place_at v i) then 1 else 0) 0 =
-        ap (λ (b : Bool). if b then 1 else 0) (not_held_by d (place_at v i) (unheld_source (place_at v i) can)) in
+      ap (λ (b : Bool). if b then 1 else 0) (not_held_by d (place_at v i) (unheld_source (place_at v i) can)) in
       omega arith
 
   pub shifted-stands : Stands (shifted v i to) (Shifted i to ∷ s)
@@ -88,17 +87,17 @@ module _ {v : PoolState} {s : List Step} (stands : Stands v s) (i : ℕ) (to : P
     minted = λ h. stands.minted h ∙ sym (minted-same v i (shifted_slot to (slot_at v i)) lt refl h);
     events = at_each v i (shifted_slot to (slot_at v i)) lt (λ j sl. last_event s j ≡ event_in sl j) (stands.events i) (λ j ne. stands.events j);
     spent = λ h. ap (option_map spent_of) (or-none-of h)
-      ∙ (stands.spent h ∙ sym (λ k. if minted-same v i (shifted_slot to (slot_at v i)) lt refl h k
+        ∙ (stands.spent h ∙ sym (λ k. if minted-same v i (shifted_slot to (slot_at v i)) lt refl h k
         then (if last-same v i (shifted_slot to (slot_at v i)) lt refl h k then spent-each (index_of h) k else finite.get v.older h) else None));
     outlived = λ h m f. ap is_some (or-none-of h)
-      ∙ stands.outlived h (sym (minted-same v i (shifted_slot to (slot_at v i)) lt refl h) ∙ m) (sym (last-same v i (shifted_slot to (slot_at v i)) lt refl h) ∙ f);
+        ∙ stands.outlived h (sym (minted-same v i (shifted_slot to (slot_at v i)) lt refl h) ∙ m) (sym (last-same v i (shifted_slot to (slot_at v i)) lt refl h) ∙ f);
     places = at_each v i (shifted_slot to (slot_at v i)) lt (λ j sl. sl.place ≡ place (Shifted i to ∷ s) j) (sym (decided (last_handle s i) refl))
-      (λ j ne. stands.places j ∙ sym (other j ne (last_handle s j)));
+        (λ j ne. stands.places j ∙ sym (other j ne (last_handle s j)));
     unspent = at_each v i (shifted_slot to (slot_at v i)) lt (λ j sl. is_held sl.place ≡ true → sl.spent ≡ None)
-      (λ t. absurd (let f = unheld_target to target in cc)) (λ j ne. stands.unspent j);
+        (λ t. absurd (let f = unheld_target to target in cc)) (λ j ne. stands.unspent j);
     unshifted = at_each v i (shifted_slot to (slot_at v i)) lt (λ j sl. is_held sl.place ≡ true → shift (Shifted i to ∷ s) j ≡ None)
-      (λ t. absurd (let f = unheld_target to target in cc)) (λ j ne t. shift-other j ne ∙ stands.unshifted j t);
+        (λ t. absurd (let f = unheld_target to target in cc)) (λ j ne t. shift-other j ne ∙ stands.unshifted j t);
     held_once = λ d h. stands.held_once d h
-      ∙ sym (λ k. if last-same v i (shifted_slot to (slot_at v i)) lt refl h k && held-each d (index_of h) k then 1 else 0);
+        ∙ sym (λ k. if last-same v i (shifted_slot to (slot_at v i)) lt refl h k && held-each d (index_of h) k then 1 else 0);
     held_counts = the_count;
   }

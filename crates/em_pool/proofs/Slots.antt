@@ -1,13 +1,12 @@
 -- One slot written, and what that changes of what is read.
-use Rattle.std.proofs.Common.{◌≡◌, ◌≢◌, ℕ, ◌<◌, ◌≤◌, Bool, true, false, ◌==◌, ◌&&◌, nat_le, Option, Some, None, List, length, get_or, set, map, if◌then◌else◌, cond, refl, ap, sym, ◌∙◌, subst, ⊎_elim, get_or-set_same, get_or-set_other}
+use Rattle.std.proofs.Common.{◌≡◌, ◌≢◌, ℕ, ◌<◌, true, ◌==◌, ◌&&◌, nat_le, None, length, if◌then◌else◌, refl, ap, sym, ◌∙◌, subst, ⊎_elim, get_or-set_same, get_or-set_other}
 use Rattle.std.specs.FinMap as finite
 use Rattle.std.proofs.lemmas.Bool.{cases_eq}
 use Rattle.em_log.specs.History.{index_of}
-use Rattle.em_pool.specs.declared.place.Spent.{Spent as SpentRecord}
 use Rattle.em_pool.specs.declared.slot.Slot.{Slot}
 use Rattle.em_pool.specs.State.{PoolState, fresh, slot_at, generation_at, place_at, generation_of, is_minted, is_last, spent_at, holds, is_held_by}
 use Rattle.em_pool.specs.Changes.{with_slot}
-use Rattle.em_pool.proofs.Numbers.{from_test, ne_test, same_handle, bool_cases}
+use Rattle.em_pool.proofs.Numbers.{from_test, same_handle, bool_cases}
 
 -- what is true of the slot that is written, and of the others, is true of each
 pub at_each : (v : PoolState) (i : ℕ) (x : Slot) → i < length v.slots → (P : ℕ → Slot → Type 0) → P i x

@@ -1,22 +1,22 @@
 -- After a handle is spent, the pools stand for one step more.
-use Rattle.std.proofs.Common.{◌≡◌, ◌≢◌, ℕ, ◌+◌, ◌<◌, ◌≤◌, Bool, true, false, ◌==◌, ◌&&◌, Option, Some, None, is_some, List, [], ◌∷◌, length, get_or, set, count_by, if◌then◌else◌, cond, arith, refl, ap, sym, ◌∙◌, subst, ⊎_elim}
+use Rattle.std.proofs.Common.{◌≡◌, ◌≢◌, ℕ, ◌+◌, ◌<◌, Bool, true, false, ◌==◌, ◌&&◌, Option, Some, None, is_some, List, ◌∷◌, length, if◌then◌else◌, arith, refl, ap, sym, ◌∙◌, subst, ⊎_elim}
 use Rattle.std.specs.Option.{option_map, option_or}
 use Rattle.std.specs.FinMap as finite
 use Rattle.std.proofs.lemmas.Bool.{cases_eq}
 use Rattle.em_log.specs.History.{index_of, without}
-use Rattle.em_log.specs.Handles.{Minting, unspent_fault}
+use Rattle.em_log.specs.Handles.{Minting}
 use Rattle.em_log.specs.declared.fault.Fault.{Fault}
 use Rattle.em_pool.specs.declared.place.Place.{Place}
 use Rattle.em_pool.specs.declared.place.Spend.{Spend}
 use Rattle.em_pool.specs.declared.slot.Slot.{Slot}
 use Rattle.em_pool.specs.Steps.{Step, Spent, held}
-use Rattle.em_pool.specs.Handles.{Spending, minting, spending, spending_of, last_handle, last_event, rule, rule_of, place_of_spend, is_freed, generation}
+use Rattle.em_pool.specs.Handles.{Spending, minting, spending, spending_of, last_handle, last_event, rule_of, place_of_spend}
 use Rattle.em_pool.specs.Places.{shift, place, place_by, place_of, is_held}
-use Rattle.em_pool.specs.State.{PoolState, fresh, slot_at, generation_at, place_at, generation_of, last_handle_in, event_in, is_minted, is_last, spent_at, holds, is_held_by, is_slot_held_by, held_count, rule_at}
+use Rattle.em_pool.specs.State.{PoolState, fresh, slot_at, place_at, last_handle_in, event_in, is_minted, is_last, spent_at, holds, is_held_by, is_slot_held_by, held_count, rule_at}
 use Rattle.em_pool.specs.Stands.{Stands, spent_of}
-use Rattle.em_pool.specs.Changes.{with_slot, spent, spent_slot}
-use Rattle.em_pool.proofs.Numbers.{eq_test, ne_test, from_test, or-none, some_or, times, times-without_same, times-without_other, length-without, count_by-set, bool_cases}
-use Rattle.em_pool.proofs.Reading.{last_handle-index, within_slots, IsMinted, is_minted-parts, last-is, unspent-last, unspent-place, rule_at-rule}
+use Rattle.em_pool.specs.Changes.{spent, spent_slot}
+use Rattle.em_pool.proofs.Numbers.{eq_test, ne_test, from_test, or-none, some_or, times, times-without_same, times-without_other, length-without, count_by-set}
+use Rattle.em_pool.proofs.Reading.{last_handle-index, within_slots, is_minted-parts, last-is, unspent-last, unspent-place, rule_at-rule}
 use Rattle.em_pool.proofs.Slots.{at_each, at_same, generation-same, minted-same, last-same, spent-other, holds-other}
 
 -- a handle that a core may use
@@ -95,8 +95,8 @@ module _ {v : PoolState} {s : List Step} (stands : Stands v s) (c w : ℕ) (how 
       (λ e. subst (λ k. option_map spent_of (spending (Spent c w how p ∷ s) k) ≡ spent_at (spent v w how p) k) e
       (ap (option_map spent_of) spending-of_w
       ∙ sym ((λ k. if (minted-same v (index_of w) (spent_slot how p (slot_at v (index_of w))) lt refl w ∙ o.was_minted) k
-        then (if (last-same v (index_of w) (spent_slot how p (slot_at v (index_of w))) lt refl w ∙ w_last) k
-          then (slot_at (spent v w how p) (index_of w)).spent else finite.get v.older w) else None)
+      then (if (last-same v (index_of w) (spent_slot how p (slot_at v (index_of w))) lt refl w ∙ w_last) k
+      then (slot_at (spent v w how p) (index_of w)).spent else finite.get v.older w) else None)
       ∙ ap (λ (sl : Slot). sl.spent) (at_same v (index_of w) (spent_slot how p (slot_at v (index_of w))) lt))))
       (λ ne. ap (option_map spent_of) (spending-of_other h ne)
       ∙ (stands.spent h ∙ sym (spent-other v (index_of w) (spent_slot how p (slot_at v (index_of w))) lt refl w h refl w_last ne)))
@@ -119,8 +119,8 @@ module _ {v : PoolState} {s : List Step} (stands : Stands v s) (c w : ℕ) (how 
       (λ e. subst (λ k. times k (without w (held s d)) ≡ (if holds (spent v w how p) d k then 1 else 0)) e
       (times-without_same w (held s d)
       ∙ sym (ap (λ (b : Bool). if b then 1 else 0)
-        ((λ k. is_last (spent v w how p) w && is_held_by d (ap (λ (sl : Slot). sl.place) (at_same v (index_of w) (spent_slot how p (slot_at v (index_of w))) lt) k))
-        ∙ ((λ k. is_last (spent v w how p) w && not_held_by d (place_of_spend how) (unheld_spend how) k) ∙ false_and (is_last (spent v w how p) w))))))
+      ((λ k. is_last (spent v w how p) w && is_held_by d (ap (λ (sl : Slot). sl.place) (at_same v (index_of w) (spent_slot how p (slot_at v (index_of w))) lt) k))
+      ∙ ((λ k. is_last (spent v w how p) w && not_held_by d (place_of_spend how) (unheld_spend how) k) ∙ false_and (is_last (spent v w how p) w))))))
       (λ ne. times-without_other h w (held s d) ne
       ∙ (stands.held_once d h
       ∙ sym (ap (λ (b : Bool). if b then 1 else 0) (holds-other v (index_of w) (spent_slot how p (slot_at v (index_of w))) lt refl w d h refl w_last ne))))
@@ -135,12 +135,12 @@ module _ {v : PoolState} {s : List Step} (stands : Stands v s) (c w : ℕ) (how 
       let fewer : length (without w (held s d)) + times w (held s d) ≡ length (held s d) = length-without w (held s d) in
       let all : length (held s d) ≡ held_count v d = stands.held_counts d in
       let put : held_count (spent v w how p) d + (if is_held_by d (place_at v (index_of w)) then 1 else 0)
-        ≡ held_count v d + (if is_held_by d (place_of_spend how) then 1 else 0) =
-        count_by-set (is_slot_held_by d) v.slots (index_of w) (spent_slot how p (slot_at v (index_of w))) fresh lt in
+      ≡ held_count v d + (if is_held_by d (place_of_spend how) then 1 else 0) =
+      count_by-set (is_slot_held_by d) v.slots (index_of w) (spent_slot how p (slot_at v (index_of w))) fresh lt in
       let gone : ◌≡◌ {A = ℕ} (if is_held_by d (place_of_spend how) then 1 else 0) 0 =
-        ap (λ (b : Bool). if b then 1 else 0) (not_held_by d (place_of_spend how) (unheld_spend how)) in
+      ap (λ (b : Bool). if b then 1 else 0) (not_held_by d (place_of_spend how) (unheld_spend how)) in
       let was : times w (held s d) ≡ (if is_held_by d (place_at v (index_of w)) then 1 else 0) =
-        stands.held_once d w ∙ ap (λ (b : Bool). if b && is_held_by d (place_at v (index_of w)) then 1 else 0) w_last in
+      stands.held_once d w ∙ ap (λ (b : Bool). if b && is_held_by d (place_at v (index_of w)) then 1 else 0) w_last in
       omega arith
 
   pub spent-stands : Stands (spent v w how p) (Spent c w how p ∷ s)
@@ -152,14 +152,14 @@ module _ {v : PoolState} {s : List Step} (stands : Stands v s) (c w : ℕ) (how 
     events = at_each v (index_of w) (spent_slot how p (slot_at v (index_of w))) lt (λ j sl. last_event s j ≡ event_in sl j) (stands.events (index_of w)) (λ j ne. stands.events j);
     spent = the_spent;
     outlived = λ h m f. some_or (spending s h) (if w == h then Some (spending_of how p) else None)
-      (stands.outlived h (sym (minted-same v (index_of w) (spent_slot how p (slot_at v (index_of w))) lt refl h) ∙ m)
-      (sym (last-same v (index_of w) (spent_slot how p (slot_at v (index_of w))) lt refl h) ∙ f));
+        (stands.outlived h (sym (minted-same v (index_of w) (spent_slot how p (slot_at v (index_of w))) lt refl h) ∙ m)
+        (sym (last-same v (index_of w) (spent_slot how p (slot_at v (index_of w))) lt refl h) ∙ f));
     places = at_each v (index_of w) (spent_slot how p (slot_at v (index_of w))) lt (λ j sl. sl.place ≡ place (Spent c w how p ∷ s) j) (sym the_place)
-      (λ j ne. stands.places j ∙ sym (place-other j ne (last_handle s j) refl));
+        (λ j ne. stands.places j ∙ sym (place-other j ne (last_handle s j) refl));
     unspent = at_each v (index_of w) (spent_slot how p (slot_at v (index_of w))) lt (λ j sl. is_held sl.place ≡ true → sl.spent ≡ None)
-      (λ t. absurd (let f = unheld_spend how in cc)) (λ j ne. stands.unspent j);
+        (λ t. absurd (let f = unheld_spend how in cc)) (λ j ne. stands.unspent j);
     unshifted = at_each v (index_of w) (spent_slot how p (slot_at v (index_of w))) lt (λ j sl. is_held sl.place ≡ true → shift s j ≡ None)
-      (λ t. absurd (let f = unheld_spend how in cc)) (λ j ne. stands.unshifted j);
+        (λ t. absurd (let f = unheld_spend how in cc)) (λ j ne. stands.unshifted j);
     held_once = the_held;
     held_counts = the_count;
   }

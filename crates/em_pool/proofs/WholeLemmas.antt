@@ -1,5 +1,5 @@
 -- The fields of the pools after one slot is written.
-use Rattle.std.proofs.Common.{◌≡◌, ◌≢◌, ℕ, ◌<◌, ◌≤◌, Bool, false, List, [], ◌∷◌, length, map, refl, get_or, set, arith, ap, sym, ◌∙◌, subst, ⊎_elim, length-set, get_or-set_same, get_or-set_other}
+use Rattle.std.proofs.Common.{◌≡◌, ℕ, ◌<◌, ◌≤◌, Bool, List, [], ◌∷◌, length, map, refl, get_or, set, arith, ap, sym, ◌∙◌, subst, ⊎_elim, length-set, get_or-set_same, get_or-set_other}
 use Rattle.std.proofs.lemmas.Bool.{cases_eq}
 use Rattle.std.proofs.lemmas.List.{map-set, length-map, get_or_read}
 use Rattle.em_log.specs.declared.declarations.PoolShape.{PoolShape}
@@ -18,9 +18,9 @@ whole-put {slots = slots} {free = free} whole i n k r x b now lt free_is put few
   few = whole.few;
   free_is = put ∙ ((λ t. set (whole.free_is t) i (free_is t)) ∙ sym (map-set is_free_slot slots i x));
   generations = λ j. ⊎_elim
-    (λ e. subst (λ (sl : Slot). sl.generation ≤ n) (sym (ap (λ q. get_or (set slots i x) q fresh) e ∙ get_or-set_same slots i x fresh lt)) few)
-    (λ ne. subst (λ (sl : Slot). sl.generation ≤ n) (sym (get_or-set_other slots i j x fresh ne)) (let g = whole.generations j in omega arith))
-    (cases_eq j i);
+      (λ e. subst (λ (sl : Slot). sl.generation ≤ n) (sym (ap (λ q. get_or (set slots i x) q fresh) e ∙ get_or-set_same slots i x fresh lt)) few)
+      (λ ne. subst (λ (sl : Slot). sl.generation ≤ n) (sym (get_or-set_other slots i j x fresh ne)) (let g = whole.generations j in omega arith))
+      (cases_eq j i);
   enough = enough;
 }
 
@@ -49,6 +49,6 @@ whole-lost {pools = pools} {slots = slots} {free = free} {m = m} {spare = spare}
       few = whole.few;
       free_is = whole.free_is ∙ sym (map-same_free c p slots);
       generations = λ j. subst (λ (sl : Slot). sl.generation ≤ m) (sym (get_or-map (lost_slot c p) fresh refl slots j))
-        (lost-cases c p (get_or slots j fresh) (λ x. x.generation ≤ m) (λ _. whole.generations j) (λ _. whole.generations j));
+          (lost-cases c p (get_or slots j fresh) (λ x. x.generation ≤ m) (λ _. whole.generations j) (λ _. whole.generations j));
       enough = whole.enough;
     })

@@ -1,5 +1,5 @@
 -- How the pools stand for the list of their steps.
-use Rattle.std.specs.Prelude.{ℕ, ◌≡◌, ◌==◌, Bool, true, false, List, length, count_by, Option, Some, None, if◌then◌else◌, is_some}
+use Rattle.std.specs.Prelude.{ℕ, ◌≡◌, ◌==◌, true, false, List, length, count_by, None, if◌then◌else◌, is_some}
 use Rattle.std.specs.Option.{option_map}
 use Rattle.em_pool.specs.declared.place.Spent.{Spent as SpentRecord}
 use Rattle.em_pool.specs.Steps.{Step, mintings, held}

@@ -33,7 +33,11 @@ impl FreeSet {
         ensures { IfOk result (λ s. s ≡ replicate size false) }
     {
         match vec![in alloc; 0u64; (usize::from(size) + 63) / 64] {
-            Ok(words) => Ok(FreeSet { size, words, summary: 0 }),
+            Ok(words) => Ok(FreeSet {
+                size,
+                words,
+                summary: 0,
+            }),
             Err(_) => Err(NoMemory),
         }
     }

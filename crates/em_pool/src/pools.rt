@@ -16,8 +16,8 @@ use crate::place::{Place, Spend, Spent, is_free, place_after};
 use crate::shapes::{bounds_of, total};
 use crate::slot::{Slot, fresh_slots, handle, lose_all, refusal_by};
 use em_log::{
-    Config, CoreId, Declarations, Event, Fault, Handle, List as Items, NoMemory, PoolId, PoolShape, Words,
-    declare,
+    Config, CoreId, Declarations, Event, Fault, Handle, List as Items, NoMemory, PoolId, PoolShape,
+    Words, declare,
 };
 use std::alloc::Global;
 use std::marker::Model;
@@ -89,7 +89,13 @@ impl Pools {
 
     /// Mints a handle for the least free event of the pool. Refused where there are more words than the pool's, then
     /// where all events of the pool are live.
-    pub fn alloc(&mut self, core: CoreId, pool: PoolId, kind: u32, words: Words) -> Result<Handle, Fault>
+    pub fn alloc(
+        &mut self,
+        core: CoreId,
+        pool: PoolId,
+        kind: u32,
+        words: Words,
+    ) -> Result<Handle, Fault>
         requires spare { 1 ≤ self.old.spare }
         requires mintings { self.old.mintings < 4294967295 }
         requires pool { pool.0 < length self.old.pools }
@@ -116,13 +122,7 @@ impl Pools {
         let (first, end) = bounds_of(self.pools.as_slice(), pool);
         match self.free.first_from(first) {
             None => None,
-            Some(index) => {
-                if index < end {
-                    Some(index)
-                } else {
-                    None
-                }
-            }
+            Some(index) => { if index < end { Some(index) } else { None } }
         }
     }
 
@@ -135,7 +135,8 @@ impl Pools {
         ensures handle { result.0 ≡ handle_of (generation_at self.old index + 1) index }
     {
         let slot = &mut self.slots[usize::from(index)];
-        self.older.keep(handle(slot.generation, index).0, slot.spent);
+        self.older
+            .keep(handle(slot.generation, index).0, slot.spent);
         let generation = slot.generation + 1;
         *slot = Slot {
             generation,

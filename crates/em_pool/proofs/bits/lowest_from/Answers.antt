@@ -1,8 +1,6 @@
-use Rattle.std.proofs.Common.{◌≡◌, ℕ, ◌<◌, ◌≤◌, w64, ⊎_elim, sym, ◌∙◌, ap, arith, Fits}
-use Rattle.std.specs.Int.{bit_at}
-use Rattle.std.proofs.lemmas.Bool.{cases_lt}
+use Rattle.std.proofs.Common.{arith}
 use Rattle.std.proofs.lemmas.Nat.Bits.{bit_at_above}
-use Rattle.em_pool.proofs.BitLemmas.{none_left, lowest, Lowest}
+use Rattle.em_pool.proofs.BitLemmas.{none_left, lowest}
 use Rattle.em_pool.proofs.bits.lowest_from.Goals as goal
 
 pub returns-then-from-ge64-clause-found : goal.returns-then-from-ge64-clause-found

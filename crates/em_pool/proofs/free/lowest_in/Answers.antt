@@ -1,4 +1,4 @@
-use Rattle.std.proofs.Common.{ℕ, arith, ap, sym, ◌∙◌, slice_index}
+use Rattle.std.proofs.Common.{arith, ap, sym, ◌∙◌, slice_index}
 use Rattle.em_pool.proofs.FreeLemmas.{zero_from_bits}
 use Rattle.em_pool.proofs.free.lowest_in.Goals as goal
 

@@ -1,4 +1,4 @@
-use Rattle.std.proofs.Common.{◌≡◌, ◌+◌, ◌≤◌, take, get_or, ap, sym, ◌∙◌, subst, arith}
+use Rattle.std.proofs.Common.{◌≡◌, ◌+◌, take, get_or, ap, sym, ◌∙◌, arith}
 use Rattle.em_log.specs.Declarations.{event_total}
 use Rattle.em_pool.specs.Places.{events_of}
 use Rattle.em_pool.proofs.FirstFree.{total-take, pool-within, events-read}

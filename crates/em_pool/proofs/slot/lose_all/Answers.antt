@@ -1,4 +1,4 @@
-use Rattle.std.proofs.Common.{◌≡◌, ◌+◌, take, get_or, count_by, ap, sym, ◌∙◌}
+use Rattle.std.proofs.Common.{◌+◌, ap, sym, ◌∙◌}
 use Rattle.std.proofs.lemmas.List.Sums.{count_by_more_yes, count_by_more_no}
 use Rattle.em_pool.specs.State.{is_slot_held_by}
 use Rattle.em_pool.specs.Changes.{lost_slot}
@@ -18,8 +18,8 @@ loop-slot-preserved c =
     record {
       slots = mapped_step f xs _ i d lt c.loop-slot.invariant.slots c.lose.new.slot c.lose.ensures.slot;
       lost = elim c.if-lose.branch [
-        then-lose w ↦ w.lost-is ∙ (ap (λ n. n + 1) c.loop-slot.invariant.lost
-        ∙ sym (count_by_more_yes p xs i d lt (sym held ∙ w.if-lose.true)))
-      | else-lose w ↦ w.lost-is ∙ (c.loop-slot.invariant.lost ∙ sym (count_by_more_no p xs i d lt (sym held ∙ w.if-lose.false)))
+        | then-lose w ↦ w.lost-is ∙ (ap (λ n. n + 1) c.loop-slot.invariant.lost
+            ∙ sym (count_by_more_yes p xs i d lt (sym held ∙ w.if-lose.true)))
+        | else-lose w ↦ w.lost-is ∙ (c.loop-slot.invariant.lost ∙ sym (count_by_more_no p xs i d lt (sym held ∙ w.if-lose.false)))
       ];
     }

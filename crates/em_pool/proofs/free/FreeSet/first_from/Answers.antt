@@ -1,5 +1,5 @@
-use Rattle.std.proofs.Common.{ap, sym, ◌∙◌, false, get_or, subst}
-use Rattle.em_pool.specs.Free.{is_member, IsFirst}
+use Rattle.std.proofs.Common.{ap, sym, ◌∙◌, false, get_or}
+use Rattle.em_pool.specs.Free.{is_member}
 use Rattle.em_pool.proofs.FreeLemmas.{member-is, same_first}
 use Rattle.em_pool.proofs.free.FreeSet.first_from.Goals as goal
 

@@ -1,4 +1,4 @@
-use Rattle.std.proofs.Common.{◌≡◌, ◌≢◌, ℕ, ◌<◌, ◌/◌, ◌%◌, ◌≤◌, if◌then◌else◌, not, ◌==◌, length, set, slice_index, slice_index_or, arith, ap, sym, ◌∙◌, subst, Bool, List}
+use Rattle.std.proofs.Common.{◌≡◌, ℕ, ◌<◌, length, set, arith, ap, sym, ◌∙◌, subst, Bool, List}
 use Rattle.std.specs.Int.{bit_at}
 use Rattle.em_pool.specs.Free.{members, IsSummed}
 use Rattle.em_pool.proofs.FreeLemmas.{IsPut, length-members, members-put, put-summed, put-word}

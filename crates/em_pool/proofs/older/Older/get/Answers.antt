@@ -1,4 +1,4 @@
-use Rattle.std.proofs.Common.{ap, sym, ◌∙◌}
+use Rattle.std.proofs.Common.{ap, ◌∙◌}
 use Rattle.std.specs.FinMap as map
 use Rattle.em_pool.proofs.OlderLemmas.{lookup-get}
 use Rattle.em_pool.proofs.older.Older.get.Goals as goal

@@ -1,4 +1,4 @@
-use Rattle.std.proofs.Common.{◌≡◌, ◌<◌, ap, sym, ◌∙◌, subst}
+use Rattle.std.proofs.Common.{◌<◌, ap, sym, ◌∙◌, subst}
 use Rattle.std.specs.FinMap as map
 use Rattle.em_pool.proofs.OlderLemmas.{put_lookups, when_ok}
 use Rattle.em_pool.proofs.older.Older.insert.Goals as goal

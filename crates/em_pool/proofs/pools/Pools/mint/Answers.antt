@@ -1,4 +1,4 @@
-use Rattle.std.proofs.Common.{◌≡◌, ◌∙◌, ◌∷◌, ◌<◌, ◌≤◌, length, ap, sym, subst, arith}
+use Rattle.std.proofs.Common.{◌∙◌, ◌∷◌, length, ap, sym, subst, arith}
 use Rattle.em_log.specs.Declarations.{event_total}
 use Rattle.em_log.specs.Leads.{event_with}
 use Rattle.em_pool.specs.Changes.{minted}

@@ -1,5 +1,4 @@
-use Rattle.std.proofs.Common.{◌≡◌, ◌∙◌, ◌<◌, ◌≤◌, ◌-◌, ◌+◌, length, set, ap, sym, subst, arith, false, refl}
-use Rattle.std.proofs.lemmas.Grind.{common_steps}
+use Rattle.std.proofs.Common.{◌∙◌, ◌<◌, length, set, ap, sym, arith, false, refl}
 use Rattle.em_log.specs.Declarations.{event_total}
 use Rattle.em_pool.specs.State.{PoolState}
 use Rattle.em_pool.proofs.WholeLemmas.{whole-put, read-generation}
