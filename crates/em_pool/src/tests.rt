@@ -1,6 +1,5 @@
 ghost use Rattle.std.specs.Prelude.{◌≡◌, ◌+◌, ◌<◌, ◌≤◌, ◌∷◌, [], length, IfOk};
 ghost use Rattle.em_log.specs.Declarations.{event_total, declarations_of};
-ghost use Rattle.em_log.specs.declared.declarations.PoolShape.{PoolShape as Shape};
 
 use crate::{Place, Pools, Spend};
 use em_log::{
