@@ -1,0 +1,17 @@
+-- What a kept environment means.
+use Rattle.std.specs.Option.{option_map}
+use Rattle.em_log.specs.Expressions.{Env, truth}
+use Rattle.em_body.specs.declared.environment.Environment.{Environment}
+
+abbrev pub env_of : Environment → Env
+env_of v = record {
+  vars = v.variables;
+  event = record { kind = v.kind; words = v.words };
+  me = v.me;
+  queue = v.queue.0;
+  core = v.core.0;
+  cells = option_map (λ cs. cs.0) v.cells;
+  ok = truth v.ok;
+  fault = v.fault;
+  detail = v.detail;
+}
