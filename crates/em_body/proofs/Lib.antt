@@ -1,1 +1,2 @@
 pub mod ValuesOf
+pub mod AsksOf

@@ -1,5 +1,6 @@
 -- What a kept environment means.
 use Rattle.std.specs.Option.{option_map}
+use Rattle.em_log.specs.declared.entry.Event.{Event}
 use Rattle.em_log.specs.Expressions.{Env, truth}
 use Rattle.em_body.specs.declared.environment.Environment.{Environment}
 
@@ -15,3 +16,6 @@ env_of v = record {
   fault = v.fault;
   detail = v.detail;
 }
+
+abbrev pub with_event : Event → Env → Env
+with_event e v = record v { event = record { kind = e.kind; words = e.words } }

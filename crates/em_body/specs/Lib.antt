@@ -1,1 +1,4 @@
 pub mod Environments
+pub mod Standings
+pub mod Frames
+pub mod Runs

@@ -1,0 +1,19 @@
+-- What is kept of a body that runs, beside where it stands: that its blocks are not nested too deep, and that its
+-- statements fit their asks.
+use Rattle.std.specs.Prelude.{ℕ, suc, ◌+◌, ◌<◌, ◌≤◌, ◌≡◌, Bool, List, [], ◌∷◌, length, map, reverse, IsTrue, Option, Some, None}
+use Rattle.std.specs.List.{list_all}
+use Rattle.em_log.specs.declared.body.Stmt.{Stmt}
+use Rattle.em_log.specs.declared.graph.Config.{Config}
+use Rattle.em_log.specs.WellFormed.{Where, is_statement}
+use Rattle.em_body.specs.Standings.{Left}
+
+-- a block with statements left, all of which may stand within so many more nested blocks
+pub record IsBlock (g : Config) (w : Where) (n : ℕ) (l : Left) : Type 0 where
+  pub some : 0 < length l.rest
+  pub rest : IsTrue (list_all (is_statement g w n) l.rest)
+  pub block : IsTrue (list_all (is_statement g w n) l.block)
+
+-- each block lies in one that may hold more nested blocks than it, the innermost in one that may hold n or more
+abbrev pub AreNested : Config → Where → ℕ → List Left → Type 0
+AreNested g w n [] = n ≤ 17
+AreNested g w n (l ∷ ls) = (m : ℕ) × ((n ≤ m) × (IsBlock g w m l × AreNested g w (suc m) ls))
