@@ -1,2 +1,3 @@
 pub mod ValuesOf
 pub mod AsksOf
+pub mod Carried

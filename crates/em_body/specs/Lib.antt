@@ -2,3 +2,4 @@ pub mod Environments
 pub mod Standings
 pub mod Frames
 pub mod Runs
+pub mod MoveLaws

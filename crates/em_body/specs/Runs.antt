@@ -4,7 +4,7 @@ use Rattle.std.specs.Prelude.{ℕ, suc, ◌+◌, ◌<◌, ◌≤◌, ◌≡◌, 
 use Rattle.std.specs.List.{list_all}
 use Rattle.em_log.specs.declared.body.Stmt.{Stmt}
 use Rattle.em_log.specs.declared.graph.Config.{Config}
-use Rattle.em_log.specs.WellFormed.{Where, is_statement}
+use Rattle.em_log.specs.WellFormed.{Where, IsWellFormed, is_statement}
 use Rattle.em_body.specs.Standings.{Left}
 
 -- a block with statements left, all of which may stand within so many more nested blocks
@@ -17,3 +17,8 @@ pub record IsBlock (g : Config) (w : Where) (n : ℕ) (l : Left) : Type 0 where
 abbrev pub AreNested : Config → Where → ℕ → List Left → Type 0
 AreNested g w n [] = n ≤ 17
 AreNested g w n (l ∷ ls) = (m : ℕ) × ((n ≤ m) × (IsBlock g w m l × AreNested g w (suc m) ls))
+
+-- the graph is well formed, and what is left of a body is nested no deeper than a script's
+pub record IsSound (g : Config) (ls : List Left) : Type 0 where
+  pub graph : IsWellFormed g
+  pub nested : (w : Where) × AreNested g w 0 ls

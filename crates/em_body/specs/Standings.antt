@@ -85,6 +85,17 @@ does_ask (Stmt.Repeat' n _ b) v = false
 does_ask (Stmt.CellWrite c e) v = is_none v.cells
 does_ask s v = true
 
+-- whether a statement holds blocks
+abbrev pub nests : Stmt → Bool
+nests (Stmt.If' t _ b _ b' _) = true
+nests (Stmt.Repeat' n _ b) = true
+nests s = false
+
+-- the statement whose ask a move leaves unanswered
+abbrev pub asking_by : Stmt → Move → Option Stmt
+asking_by s (Move.Ask a) = Some s
+asking_by s m = None
+
 -- what a statement does, from where the body stands with that statement done
 pub data Does (s : Stmt) (was : Standing) (m : Move) (now : Standing) : Type 0 where
   Sets : (i : ℕ) (e : Expr) → s ≡ stmt.Set i e → m ≡ Move.Silent

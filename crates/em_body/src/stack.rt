@@ -22,7 +22,7 @@ pub struct Stack<'a> {
 }
 
 impl<'a> Model for Stack<'a> {
-    ghost use Rattle.std.specs.Prelude.{List, map, reverse};
+    ghost use Rattle.std.specs.Prelude.{◌≤◌, List, length, map, reverse};
     ghost use Rattle.em_body.specs.Standings.{Left};
     ghost use Rattle.em_body.specs.Frames.{left_of};
 
@@ -34,6 +34,8 @@ impl<'a> Model for Stack<'a> {
     ghost coded = { Prim.hlevel (codes, stmt.the_row.coded) };
 
     ghost view = { λ s. reverse (map left_of s.frames.items) };
+
+    ghost invariant = { λ s. length s.frames.items ≤ 17 };
 }
 
 impl<'a> Stack<'a> {

@@ -3,7 +3,7 @@ use Rattle.std.proofs.lemmas.List.{length-reverse, length-map}
 use Rattle.em_body.proofs.stack.Stack.take.Goals as goal
 
 pub enter-requires : goal.enter-requires
-enter-requires c = let h = c.in-Some.ensures.len in let k = c.pop.type_inv in let k = c.self.invariant in ?
+enter-requires c = simp (length-reverse, length-map) (omega (arith, c.in-Some.ensures.len))
 
 pub resume-requires : goal.resume-requires
-resume-requires c = simp (length-reverse, length-map) ?
+resume-requires c = simp (length-reverse, length-map) (omega (arith, c.in-Some.ensures.len))
