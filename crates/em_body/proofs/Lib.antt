@@ -4,3 +4,7 @@ pub mod Carried
 pub mod Rows
 pub mod NestedBlocks
 pub mod Bodies
+pub mod Readings
+pub mod Remaining
+pub mod AnswersRead
+pub mod Reaching

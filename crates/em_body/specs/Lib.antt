@@ -3,3 +3,4 @@ pub mod Standings
 pub mod Frames
 pub mod Runs
 pub mod MoveLaws
+pub mod Followed

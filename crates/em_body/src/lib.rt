@@ -7,3 +7,24 @@ pub mod run;
 mod stack;
 mod values;
 
+
+pub use run::BodyRun;
+
+ghost use Rattle.em_body.specs.Followed.{BodiesAreFollowed, EndsWhereNothingIsLeft, ContextsAreBounded};
+
+/// A body is followed: in each state that a context reaches, the asks with the entries that their answers are read from
+/// are the pairs of the reading of its body, and the body goes on from there as what is left of it.
+pub fn bodies_are_followed()
+    ensures { BodiesAreFollowed }
+{}
+
+/// A body ends exactly where nothing is left of it.
+pub fn ends_where_nothing_is_left()
+    ensures { EndsWhereNothingIsLeft }
+{}
+
+/// In each context of a well-formed graph the costs of the asks add up to at most 256, and at most 65,536 statements
+/// are carried out.
+pub fn contexts_are_bounded()
+    ensures { ContextsAreBounded }
+{}
