@@ -8,3 +8,4 @@ pub mod Readings
 pub mod Remaining
 pub mod AnswersRead
 pub mod Reaching
+pub mod Bare

@@ -15,6 +15,7 @@ use Rattle.em_body.specs.Followed.{Reads, AreRead, pairs_of, unserving, follow_l
 use Rattle.em_body.proofs.Readings.{with_pairs-append, and_then-end, turns-one}
 use Rattle.em_body.proofs.Remaining.{entered-follow, moves-ahead}
 use Rattle.em_body.proofs.AnswersRead.{leaves-ahead}
+use Rattle.em_body.proofs.Bare.{ahead-bare}
 
 reverse-cons : {A : Type 0} (x : A) (xs : List A) → reverse (x ∷ xs) ≡ reverse xs ++ (x ∷ [])
 reverse-cons x xs = reverse-append (x ∷ []) xs
@@ -67,3 +68,32 @@ reached-further f c es s (Reached.Answered _ past was _ a x before some fits lea
     subst (λ xs. (ws more : List What) → AreRead xs ws
         → whole f c (reverse ws ++ more) ≡ with_pairs (reverse (pairs_of xs ws)) (ahead unserving s more)) (sym is)
     (answered-further f c past a x was s some leaves (reached-further f c past was before)) ws more read
+
+-- with nothing further
+
+append-none : {A : Type 0} (xs : List A) → xs ++ [] ≡ xs
+append-none [] = refl
+append-none (x ∷ xs) = ap (λ ys. x ∷ ys) (append-none xs)
+
+cut-asking : (o : Option Stmt) (ls : List Left) (v : Env) → IsSome o → (follow_asking unserving o ls v []).env ≡ None
+cut-asking None ls v some = absurd (cc some)
+cut-asking (Some s) ls v some = refl
+
+over-left : (o : Option Stmt) (ls : List Left) (v : Env) → o ≡ None → ls ≡ [] → (follow_asking unserving o ls v []).env ≡ Some v
+over-left None [] v none empty = refl
+over-left None (l ∷ ls) v none empty = absurd (cc empty)
+over-left (Some s) ls v none empty = absurd (cc none)
+
+pub followed : (f : Made) (c : Context) (es : List Exchange) (s : Standing) → IsReached f c es s → (ws : List What) → AreRead es ws → IsFollowed f c es ws s
+followed f c es s reached ws read =
+    let ps : List Pair = reverse (pairs_of es ws) in
+    let here : reading f c ws ≡ with_pairs ps (ahead unserving s []) =
+        ap (λ vs. whole f c vs) (sym (append-none (reverse ws))) ∙ reached-further f c es s reached ws [] read in
+    let bare = ahead-bare unserving s in
+    record {
+      further = λ more. reached-further f c es s reached ws more read;
+      pairs = ap (λ r. r.pairs) here ∙ ap (λ qs. ps ++ qs) bare.pairs ∙ append-none ps;
+      rest = ap (λ r. r.rest) here ∙ bare.rest;
+      cut = λ some. ap (λ r. r.env) here ∙ cut-asking s.asking s.left s.env some;
+      over = λ none empty. ap (λ r. r.env) here ∙ over-left s.asking s.left s.env none empty;
+    }
