@@ -9,3 +9,5 @@ pub mod Remaining
 pub mod AnswersRead
 pub mod Reaching
 pub mod Bare
+pub mod Measures
+pub mod Bounds
