@@ -73,7 +73,7 @@ leaves-ahead f was a x now w ws some leaves reads =
     let L : Behavior = follow_left unserving was.left in
     let reads-it : Reads (ask_of s was.env) x w = subst (λ b. Reads b x w) (sym q.ask) reads in
     let left : now ≡ record { env = answered s x was.env; left = was.left; asking = None } =
-        leaves ∙ ap (λ o. record { env = left_by o x was.env; left = was.left; asking = None }) q.is in
+    leaves ∙ ap (λ o. record { env = left_by o x was.env; left = was.left; asking = None }) q.is in
     ap (λ o. follow_asking unserving o was.left was.env (w ∷ ws)) q.is
     ∙ ap (λ r. and_then r L) (answer-reads s was.env x w ws reads-it)
     ∙ and_then-pairs (pair (ask_of s was.env) w) (stays (answered s x was.env) ws) L

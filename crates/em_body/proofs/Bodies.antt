@@ -70,13 +70,13 @@ object-served : (g : Config) (d : EoDecl) → IsTrue (are_bodies g d) → Serves
 object-served g d h =
     let error : Option (List Stmt) = option_or d.error g.error in
     let a = and_parts (is_body g Receive error d.receive && is_body g Start error d.start && is_body g OtherOfObject error d.stop
-        && is_body g OtherOfObject error d.lstart && is_body g OtherOfObject error d.lstop && is_error_body g OtherOfObject d.error) (are_given d) h in
+    && is_body g OtherOfObject error d.lstart && is_body g OtherOfObject error d.lstop && is_error_body g OtherOfObject d.error) (are_given d) h in
     let b = and_parts (is_body g Receive error d.receive && is_body g Start error d.start && is_body g OtherOfObject error d.stop
-        && is_body g OtherOfObject error d.lstart && is_body g OtherOfObject error d.lstop) (is_error_body g OtherOfObject d.error) a.0 in
+    && is_body g OtherOfObject error d.lstart && is_body g OtherOfObject error d.lstop) (is_error_body g OtherOfObject d.error) a.0 in
     let c = and_parts (is_body g Receive error d.receive && is_body g Start error d.start && is_body g OtherOfObject error d.stop
-        && is_body g OtherOfObject error d.lstart) (is_body g OtherOfObject error d.lstop) b.0 in
+    && is_body g OtherOfObject error d.lstart) (is_body g OtherOfObject error d.lstop) b.0 in
     let e = and_parts (is_body g Receive error d.receive && is_body g Start error d.start && is_body g OtherOfObject error d.stop)
-        (is_body g OtherOfObject error d.lstart) c.0 in
+    (is_body g OtherOfObject error d.lstart) c.0 in
     let f = and_parts (is_body g Receive error d.receive && is_body g Start error d.start) (is_body g OtherOfObject error d.stop) e.0 in
     let h = and_parts (is_body g Receive error d.receive) (is_body g Start error d.start) f.0 in
     record {
@@ -114,7 +114,7 @@ pub served-statements : (g : Config) (body : List Stmt) (s : IsServed g body) �
 served-statements g body s =
     let error : Option (List Stmt) = s.error in
     let a = and_parts (list_all (is_statement g s.place 16) body && nat_le (weight_of (option_map_or (weight_of 0) error 0) body) 256)
-        (nat_le (steps_of (option_map_or (steps_of 0) error 0) body) 65536) s.fits in
+    (nat_le (steps_of (option_map_or (steps_of 0) error 0) body) 65536) s.fits in
     (and_parts (list_all (is_statement g s.place 16) body) (nat_le (weight_of (option_map_or (weight_of 0) error 0) body) 256) a.0).0
 
 pub begun-sound : (g : Config) → IsWellFormed g → (c : Context) → IsSound g (entered (body_of g c) 1 [])

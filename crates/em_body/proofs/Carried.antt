@@ -48,7 +48,7 @@ pub moves-of : (f : Made) (v : Env) (ls rest : List Left) (o : Option Stmt) (r :
     → Moves r.made r.standing m (record { env = u; left = now; asking = a })
 moves-of f v ls rest o r s m u now a view none first is does after =
     let unasked : o ≡ None =
-        none-mapped (λ q. ask_of q v) o (subst (λ x. unanswered x.standing ≡ None) (sym view) none) in
+    none-mapped (λ q. ask_of q v) o (subst (λ x. unanswered x.standing ≡ None) (sym view) none) in
     subst (λ x. Moves x.made x.standing m (record { env = u; left = now; asking = a })) view
     (moves-by f (record { env = v; left = ls; asking = o }) s rest m _ (subst (λ x. unanswered x.standing ≡ None) (sym view) none) first is
     (subst (λ q. Does s (at v rest) m (record { env = u; left = now; asking = q })) (sym (after unasked)) does))

@@ -11,3 +11,5 @@ pub mod Reaching
 pub mod Bare
 pub mod Measures
 pub mod Bounds
+pub mod SilentMoves
+pub mod LeadsRead

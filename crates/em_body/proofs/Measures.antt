@@ -110,7 +110,7 @@ does-weight e s was m now none (Branches t first second has_else is silent new) 
     let block : List Stmt = chosen (value t was.env) first second in
     let c : cost_now now ≡ 0 = unasked-cost now (ap (λ t. t.asking) new ∙ none) in
     let l : left_sum (weight e) now.left ≡ 1 * total (weight e) block + left_sum (weight e) was.left =
-        ap (λ t. left_sum (weight e) t.left) new ∙ entered-sum (weight e) block 1 was.left in
+    ap (λ t. left_sum (weight e) t.left) new ∙ entered-sum (weight e) block 1 was.left in
     let h = chosen-sum (weight e) (value t was.env) first second in
     let w : weight e s ≡ max (weight_of e first) (weight_of e second) = ap (weight e) is ∙ if-weight e t first second has_else in
     let a = weight_of-sum e first in
@@ -119,7 +119,7 @@ does-weight e s was m now none (Branches t first second has_else is silent new) 
 does-weight e s was m now none (Repeats n block is silent new) =
     let c : cost_now now ≡ 0 = unasked-cost now (ap (λ t. t.asking) new ∙ none) in
     let l : left_sum (weight e) now.left ≡ n * total (weight e) block + left_sum (weight e) was.left =
-        ap (λ t. left_sum (weight e) t.left) new ∙ entered-sum (weight e) block n was.left in
+    ap (λ t. left_sum (weight e) t.left) new ∙ entered-sum (weight e) block n was.left in
     let w : weight e s ≡ n * total (weight e) block = ap (weight e) is ∙ repeat-weight e n block ∙ ap (λ k. n * k) (weight_of-sum e block) in
     omega arith
 does-weight e s was m now none (Writes x y cells is some silent new) =
@@ -141,7 +141,7 @@ does-steps e s was m now (Sets i x is silent new) =
 does-steps e s was m now (Branches t first second has_else is silent new) =
     let block : List Stmt = chosen (value t was.env) first second in
     let l : left_sum (steps e) now.left ≡ 1 * total (steps e) block + left_sum (steps e) was.left =
-        ap (λ t. left_sum (steps e) t.left) new ∙ entered-sum (steps e) block 1 was.left in
+    ap (λ t. left_sum (steps e) t.left) new ∙ entered-sum (steps e) block 1 was.left in
     let h = chosen-sum (steps e) (value t was.env) first second in
     let w : steps e s ≡ 1 + max (steps_of e first) (steps_of e second) = ap (steps e) is ∙ if-steps e t first second has_else in
     let a = steps_of-sum e first in
@@ -149,7 +149,7 @@ does-steps e s was m now (Branches t first second has_else is silent new) =
     omega arith
 does-steps e s was m now (Repeats n block is silent new) =
     let l : left_sum (steps e) now.left ≡ n * total (steps e) block + left_sum (steps e) was.left =
-        ap (λ t. left_sum (steps e) t.left) new ∙ entered-sum (steps e) block n was.left in
+    ap (λ t. left_sum (steps e) t.left) new ∙ entered-sum (steps e) block n was.left in
     let w : steps e s ≡ 1 + n * total (steps e) block = ap (steps e) is ∙ repeat-steps e n block ∙ ap (λ k. 1 + n * k) (steps_of-sum e block) in
     omega arith
 does-steps e s was m now (Writes x y cells is some silent new) =

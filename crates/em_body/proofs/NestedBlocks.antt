@@ -82,7 +82,7 @@ if-fits g w zero t first second h fits = absurd (cc (if-nests g w t first second
 if-fits g w (suc d) t first second h fits =
     let whole = sym (if-statement g w d t first second h) ∙ fits in
     let a = and_parts (is_expression t && list_all (is_statement g w d) first && list_all (is_statement g w d) second)
-        (h || is_empty_row (hidden-the_row-Stmt-0 second)) whole in
+    (h || is_empty_row (hidden-the_row-Stmt-0 second)) whole in
     let b = and_parts (is_expression t && list_all (is_statement g w d) first) (list_all (is_statement g w d) second) a.0 in
     let c = and_parts (is_expression t) (list_all (is_statement g w d) first) b.0 in
     record { depth = d; is = refl; all_first = c.1; all_second = b.1 }

@@ -41,7 +41,7 @@ begun-further f c (x ∷ xs) s none begins ws more read = absurd (cc none)
 answered-further : (f : Made) (c : Context) (before : List Exchange) (a : Ask) (x : Answer) (was now : Standing) → unanswered was ≡ Some a
     → Leaves f was x now
     → ((ws more : List What) → AreRead before ws
-        → whole f c (reverse ws ++ more) ≡ with_pairs (reverse (pairs_of before ws)) (ahead unserving was more))
+    → whole f c (reverse ws ++ more) ≡ with_pairs (reverse (pairs_of before ws)) (ahead unserving was more))
     → (ws more : List What) → AreRead (record { ask = a; answer = x } ∷ before) ws
     → whole f c (reverse ws ++ more) ≡ with_pairs (reverse (pairs_of (record { ask = a; answer = x } ∷ before) ws)) (ahead unserving now more)
 answered-further f c before a x was now some leaves further [] more read = absurd read
@@ -66,7 +66,7 @@ reached-further f c es s (Reached.Asked _ was _ a before moves) ws more read =
     ∙ ap (λ r. with_pairs (reverse (pairs_of es ws)) r) (moves-ahead unserving f was (Move.Ask a) s more moves)
 reached-further f c es s (Reached.Answered _ past was _ a x before some fits leaves is) ws more read =
     subst (λ xs. (ws more : List What) → AreRead xs ws
-        → whole f c (reverse ws ++ more) ≡ with_pairs (reverse (pairs_of xs ws)) (ahead unserving s more)) (sym is)
+    → whole f c (reverse ws ++ more) ≡ with_pairs (reverse (pairs_of xs ws)) (ahead unserving s more)) (sym is)
     (answered-further f c past a x was s some leaves (reached-further f c past was before)) ws more read
 
 -- with nothing further
@@ -88,7 +88,7 @@ pub followed : (f : Made) (c : Context) (es : List Exchange) (s : Standing) → 
 followed f c es s reached ws read =
     let ps : List Pair = reverse (pairs_of es ws) in
     let here : reading f c ws ≡ with_pairs ps (ahead unserving s []) =
-        ap (λ vs. whole f c vs) (sym (append-none (reverse ws))) ∙ reached-further f c es s reached ws [] read in
+    ap (λ vs. whole f c vs) (sym (append-none (reverse ws))) ∙ reached-further f c es s reached ws [] read in
     let bare = ahead-bare unserving s in
     record {
       further = λ more. reached-further f c es s reached ws more read;

@@ -6,6 +6,7 @@ use Rattle.em_log.specs.declared.ask.Answer.{Answer}
 use Rattle.em_log.specs.declared.ask.Ask.{Ask}
 use Rattle.em_log.specs.declared.ask.Context.{Context}
 use Rattle.em_log.specs.declared.body.Stmt.{Stmt}
+use Rattle.em_log.specs.declared.declarations.Declarations.{Declarations}
 use Rattle.em_log.specs.declared.entry.What.{What}
 use Rattle.em_log.specs.declared.fault.Fault.{Fault}
 use Rattle.em_log.specs.declared.ids.EoId.{EoId}
@@ -14,10 +15,11 @@ use Rattle.em_log.specs.Allowance.{cost_of_ask}
 use Rattle.em_log.specs.Answers.{answer_of}
 use Rattle.em_log.specs.Bodies.{Pair, Reading, Behavior, Handler, ask_of, variable, asks, stays, and_then, turns, with_pairs, follow_all, serves}
 use Rattle.em_log.specs.Expressions.{Env}
-use Rattle.em_log.specs.Leads.{call_of}
+use Rattle.em_log.specs.History.{Past}
+use Rattle.em_log.specs.Leads.{call_of, lead}
 use Rattle.em_log.specs.WellFormed.{IsWellFormed}
-use Rattle.em_log.specs.Works.{Exchange, Reached}
-use Rattle.em_body.specs.Standings.{Left, Made, Standing, Begins, Moves, Leaves, unanswered, body_of, opening, carried}
+use Rattle.em_log.specs.Works.{Exchange, Reached, is_end}
+use Rattle.em_body.specs.Standings.{Left, Made, Standing, Begins, Moves, Leaves, unanswered, body_of, opening, first_of, does_ask}
 
 -- entries that answers are read from
 
@@ -132,3 +134,13 @@ cost_of_all es s = sum_by (λ x. cost_of_ask x.ask) es + option_map_or cost_of_a
 abbrev pub ContextsAreBounded : Type 0
 ContextsAreBounded = (f : Made) → IsWellFormed f.graph → (c : Context) (es : List Exchange) (s : Standing) (r : IsReached f c es s)
     → (cost_of_all es s ≤ 256) × (carried_out r ≤ 65536)
+
+-- a silent move carries out one statement, which asks nothing
+abbrev pub SilentWhereNothingIsAsked : Type 0
+SilentWhereNothingIsAsked = (f : Made) (s t : Standing) → Moves f s Move.Silent t
+    → (q : Stmt) × ((first_of s.left ≡ Some q) × (does_ask q s.env ≡ false))
+
+-- the entry that an ask gives in a history is one that its answer is read from
+abbrev pub LeadsAreRead : Type 0
+LeadsAreRead = (k : Declarations) (past : Past) (core : ℕ) (a : Ask) → is_end a ≡ false
+    → Reads a (answer_of (lead k past core a)) (lead k past core a)

@@ -54,7 +54,10 @@ pub fn ask_of(s: &Stmt, v: &Environment) -> Ask
     match s {
         Stmt::Say(e) => Ask::Say(value(e, v)),
         Stmt::Alloc {
-            pool, kind, words, ..
+            pool,
+            kind,
+            words,
+            ..
         } => Ask::Alloc {
             pool: *pool,
             kind: (value(kind, v) % 0x1_0000_0000) as u32,
@@ -104,6 +107,7 @@ pub fn ask_of(s: &Stmt, v: &Environment) -> Ask
             notes: notes_of(notes.as_slice(), v),
         },
         Stmt::Fail => Ask::Fail,
-        Stmt::Set { .. } | Stmt::If { .. } | Stmt::Repeat { .. } | Stmt::CellWrite { .. } => Ask::Cell,
+        Stmt::Set { .. } | Stmt::If { .. } | Stmt::Repeat { .. } | Stmt::CellWrite { .. } =>
+            Ask::Cell,
     }
 }

@@ -14,7 +14,6 @@ use em_log::ids::{Cells, CoreId};
 use em_log::work::{Move, Work};
 use std::marker::Model;
 
-
 /// The body of a context.
 fn body_of<'a>(config: &'a Config, context: &Context) -> &'a [Stmt]
     ensures { result.now ≡ body_by config.now context.now }
@@ -54,10 +53,8 @@ fn chosen<'a>(test: u64, yes: &'a [Stmt], no: &'a [Stmt]) -> &'a [Stmt]
 fn carry_out<'a>(s: &'a Stmt, environment: &mut Environment, stack: &mut Stack<'a>) -> Move
     requires small { IsTrue (is_small s.now) }
     requires room { IsTrue (nests s.now) → length stack.old < 17 }
-    ensures {
-        Does s.now (record { env = env_of environment.old; left = stack.old; asking = None }) result
-        (record { env = env_of environment.new; left = stack.new; asking = asking_by s.now result })
-    }
+    ensures { Does s.now (record { env = env_of environment.old; left = stack.old; asking = None }) result
+        (record { env = env_of environment.new; left = stack.new; asking = asking_by s.now result }) }
 {
     match s {
         Stmt::Set { v, value: e } => {
@@ -107,12 +104,10 @@ impl<'a> Model for BodyRun<'a> {
 
     ghost coded = { Prim.hlevel (codes, stmt.the_row.coded, graph.the_row.coded) };
 
-    ghost view = {
-        λ r. record {
-          made = record { graph = r.config.now; core = r.core.0 };
-          standing = record { env = env_of r.environment; left = r.stack; asking = option_copied r.asking };
-        }
-    };
+    ghost view = { λ r. record {
+      made = record { graph = r.config.now; core = r.core.0 };
+      standing = record { env = env_of r.environment; left = r.stack; asking = option_copied r.asking };
+    } };
 
     ghost invariant = { λ r. IsSound r.config.now r.stack };
 }

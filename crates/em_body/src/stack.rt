@@ -25,7 +25,6 @@ impl<'a> Model for Stack<'a> {
     ghost use Rattle.std.specs.Prelude.{◌≤◌, List, length, map, reverse};
     ghost use Rattle.em_body.specs.Standings.{Left};
     ghost use Rattle.em_body.specs.Frames.{left_of};
-
     ghost use Rattle.em_log.specs.contracts.body.Stmt as stmt;
     ghost use Rattle.std.specs.Coded.{codes};
 
