@@ -13,3 +13,4 @@ pub mod Measures
 pub mod Bounds
 pub mod SilentMoves
 pub mod LeadsRead
+pub mod ExampleGraph

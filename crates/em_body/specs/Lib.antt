@@ -4,3 +4,4 @@ pub mod Frames
 pub mod Runs
 pub mod MoveLaws
 pub mod Followed
+pub mod Example

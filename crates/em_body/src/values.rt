@@ -57,3 +57,6 @@ pub fn value(e: &Expr, v: &Environment) -> u64
         Expr::Eq(a, b) => (value(a.get(), v) == value(b.get(), v)) as u64,
     }
 }
+
+#[cfg(test)]
+mod tests;
