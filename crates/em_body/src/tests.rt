@@ -1,5 +1,5 @@
 //! What each statement asks and leaves, by bodies that show it.
-ghost use Rattle.std.specs.Prelude.{◌≡◌, ◌∷◌, [], IfOk, IsTrue, None, true};
+ghost use Rattle.std.specs.Prelude.{◌≡◌, ◌∷◌, ◌++◌, [], IfOk, IsTrue, None, true, length, ◌≤◌};
 ghost use Rattle.em_log.specs.declared.body.Expr.TheVariants as expr;
 ghost use Rattle.em_log.specs.declared.body.Stmt.TheVariants as stmt;
 ghost use Rattle.em_log.specs.WellFormed.{IsWellFormed};
@@ -108,21 +108,30 @@ fn boxed(alloc: Global, e: Expr) -> Result<Boxed<Expr>, NoMemory>
     Boxed::new(alloc, e).map_err(|_| NoMemory)
 }
 
+fn with(block: Block, s: Stmt) -> Result<Block, NoMemory>
+    ensures { IfOk result (λ more. more ≡ block ++ s ∷ []) }
+{
+    let mut more = block;
+    more.push(s)?;
+    Ok(more)
+}
+
+fn cell_said(alloc: Global) -> Result<Stmt, NoMemory>
+    ensures { IfOk result (λ s. s ≡ stmt.Say (expr.Cell (expr.Number 9))) }
+{
+    Ok(Stmt::Say(Expr::Cell(boxed(alloc, Expr::Number(9))?)))
+}
+
 fn shows(alloc: Global, s: Stmt) -> Result<Block, NoMemory>
     ensures { IfOk result (λ block. block ≡ shown s) }
 {
-    let mut block = List::new(alloc);
-    block.push(Stmt::Set {
-        v: 0,
-        value: Expr::Number(9),
-    })?;
-    block.push(s)?;
-    block.push(Stmt::Say(Expr::LastOk))?;
-    block.push(Stmt::Say(Expr::Var(0)))?;
-    block.push(Stmt::Say(Expr::Kind))?;
-    block.push(Stmt::Say(Expr::Size))?;
-    block.push(Stmt::Say(Expr::Cell(boxed(alloc, Expr::Number(9))?)))?;
-    Ok(block)
+    let block = with(List::new(alloc), set(9))?;
+    let block = with(block, s)?;
+    let block = with(block, Stmt::Say(Expr::LastOk))?;
+    let block = with(block, Stmt::Say(Expr::Var(0)))?;
+    let block = with(block, Stmt::Say(Expr::Kind))?;
+    let block = with(block, Stmt::Say(Expr::Size))?;
+    with(block, cell_said(alloc)?)
 }
 
 // runs
@@ -169,9 +178,11 @@ fn transcript(
     let mut run = BodyRun::new(config, CoreId(2));
     run.begin(context);
     let mut text = String::new(alloc);
+    let done = Answer::Done;
     let mut first = true;
     for _ in 0..20 {
-        let made = exchange(rt, &mut run, if first { answer } else { &Answer::Done });
+        let given = if first { answer } else { &done };
+        let made = exchange(rt, &mut run, given);
         write!(text, "{made:?} ")?;
         match made {
             Move::Silent => {}
@@ -198,9 +209,11 @@ fn moves(rt: &impl Abort, config: &Config, context: &Context) -> u32
     n
 }
 
-fn event(handle: u64, kind: u32, words: &[u64]) -> Event {
+fn event(handle: u64, kind: u32, words: &[u64]) -> Event
+    requires { length words.now ≤ 16 }
+{
     let mut kept = Words::new();
-    for word in words.iter().take(16) {
+    for word in words {
         kept.push(*word);
     }
     Event {

@@ -1,6 +1,6 @@
 use super::value;
 use crate::environment::Environment;
-use em_log::{Cells, CoreId, Expr, QueueId};
+use em_log::{Cells, CoreId, Expr, QueueId, Words};
 use sqlite_items::Boxed;
 use std::alloc::{AllocError, Global};
 use std::process::Abort;
@@ -12,121 +12,182 @@ const HALF: u64 = 9223372036854775808;
 
 const WORD: u64 = 4294967296;
 
-/// An expression and its value.
-type Row = (Expr, u64);
-
-fn one<F: FnOnce(Boxed<Expr>) -> Expr>(alloc: Global, form: F, n: u64) -> Result<Expr, AllocError>
-    requires { F.IsAlwaysCallable form }
-{
-    Ok(form(Boxed::new(alloc, Expr::Number(n))?))
-}
-
-fn two<F: FnOnce(Boxed<Expr>, Boxed<Expr>) -> Expr>(
-    alloc: Global,
-    form: F,
-    m: u64,
-    n: u64,
-) -> Result<Expr, AllocError>
-    requires { F.IsAlwaysCallable form }
-{
-    let left = Boxed::new(alloc, Expr::Number(m))?;
-    Ok(form(left, Boxed::new(alloc, Expr::Number(n))?))
-}
-
-fn plain_rows(alloc: Global) -> Result<Vec<Row>, AllocError> {
-    let mut rows = Vec::new(alloc);
-    rows.push((Expr::Number(MAX), MAX))?;
-    rows.push((Expr::Var(3), 7))?;
-    rows.push((Expr::Var(15), 0))?;
-    rows.push((Expr::Kind, 4294967295))?;
-    rows.push((Expr::Size, 3))?;
-    rows.push((Expr::Me, 65536))?;
-    rows.push((Expr::Queue, 9))?;
-    rows.push((Expr::Core, 2))?;
-    rows.push((Expr::LastOk, 1))?;
-    rows.push((Expr::FaultNumber, 0))?;
-    rows.push((Expr::Detail, 0))?;
-    Ok(rows)
-}
-
-fn indexed_rows(alloc: Global) -> Result<Vec<Row>, AllocError> {
-    let mut rows = Vec::new(alloc);
-    rows.push((one(alloc, Expr::Word, 0)?, 10))?;
-    rows.push((one(alloc, Expr::Word, 2)?, MAX))?;
-    rows.push((one(alloc, Expr::Word, 3)?, 0))?;
-    rows.push((one(alloc, Expr::Word, MAX)?, 0))?;
-    rows.push((one(alloc, Expr::Cell, 1)?, 101))?;
-    rows.push((one(alloc, Expr::Cell, 8)?, 100))?;
-    rows.push((one(alloc, Expr::Cell, MAX)?, 107))?;
-    Ok(rows)
-}
-
-fn sum_rows(alloc: Global) -> Result<Vec<Row>, AllocError> {
-    let mut rows = Vec::new(alloc);
-    rows.push((two(alloc, Expr::Add, 2, 3)?, 5))?;
-    rows.push((two(alloc, Expr::Add, MAX, 1)?, 0))?;
-    rows.push((two(alloc, Expr::Add, MAX, MAX)?, 18446744073709551614))?;
-    rows.push((two(alloc, Expr::Sub, 7, 5)?, 2))?;
-    rows.push((two(alloc, Expr::Sub, 5, 7)?, 18446744073709551614))?;
-    rows.push((two(alloc, Expr::Sub, 0, MAX)?, 1))?;
-    rows.push((two(alloc, Expr::Mul, 6, 7)?, 42))?;
-    rows.push((two(alloc, Expr::Mul, HALF, 2)?, 0))?;
-    rows.push((two(alloc, Expr::Mul, MAX, MAX)?, 1))?;
-    rows.push((two(alloc, Expr::Mul, WORD, 4294967297)?, WORD))?;
-    Ok(rows)
-}
-
-fn bit_rows(alloc: Global) -> Result<Vec<Row>, AllocError> {
-    let mut rows = Vec::new(alloc);
-    rows.push((two(alloc, Expr::And, 12, 10)?, 8))?;
-    rows.push((two(alloc, Expr::Or, 12, 10)?, 14))?;
-    rows.push((two(alloc, Expr::Xor, 12, 10)?, 6))?;
-    rows.push((two(alloc, Expr::Shr, 256, 4)?, 16))?;
-    rows.push((two(alloc, Expr::Shr, MAX, 63)?, 1))?;
-    rows.push((two(alloc, Expr::Shr, 5, 64)?, 5))?;
-    rows.push((two(alloc, Expr::Shr, 6, 65)?, 3))?;
-    rows.push((two(alloc, Expr::Shr, MAX, 127)?, 1))?;
-    rows.push((two(alloc, Expr::Lt, 1, 2)?, 1))?;
-    rows.push((two(alloc, Expr::Lt, 2, 2)?, 0))?;
-    rows.push((two(alloc, Expr::Lt, MAX, 0)?, 0))?;
-    rows.push((two(alloc, Expr::Eq, MAX, MAX)?, 1))?;
-    rows.push((two(alloc, Expr::Eq, 0, MAX)?, 0))?;
-    Ok(rows)
-}
-
-fn nothing_rows(alloc: Global) -> Result<Vec<Row>, AllocError> {
-    let mut rows = Vec::new(alloc);
-    rows.push((Expr::Kind, 0))?;
-    rows.push((Expr::Size, 0))?;
-    rows.push((Expr::Me, 0))?;
-    rows.push((Expr::Queue, 0))?;
-    rows.push((one(alloc, Expr::Word, 0)?, 0))?;
-    rows.push((one(alloc, Expr::Cell, 8)?, 0))?;
-    Ok(rows)
-}
-
-fn check(rt: &impl Abort, rows: &[Row], v: &Environment) {
+fn check(rt: &impl Abort, v: &Environment, rows: &[(Expr, u64)]) {
     for row in rows {
         assert_eq!(rt; value(&row.0, v), row.1, "{:?}", row.0);
     }
 }
 
+/// Each row is a part and the value of the form of it.
+fn one<F: Fn(Boxed<Expr>) -> Expr>(
+    rt: &impl Abort,
+    alloc: Global,
+    v: &Environment,
+    form: F,
+    rows: &[(u64, u64)],
+) -> Result<(), AllocError>
+    requires { F.IsAlwaysCallable form }
+{
+    for row in rows {
+        let e = form(Boxed::new(alloc, Expr::Number(row.0))?);
+        assert_eq!(rt; value(&e, v), row.1, "{e:?}");
+    }
+    Ok(())
+}
+
+/// Each row is two parts and the value of the form of them.
+fn two<F: Fn(Boxed<Expr>, Boxed<Expr>) -> Expr>(
+    rt: &impl Abort,
+    alloc: Global,
+    v: &Environment,
+    form: F,
+    rows: &[(u64, u64, u64)],
+) -> Result<(), AllocError>
+    requires { F.IsAlwaysCallable form }
+{
+    for row in rows {
+        let left = Boxed::new(alloc, Expr::Number(row.0))?;
+        let e = form(left, Boxed::new(alloc, Expr::Number(row.1))?);
+        assert_eq!(rt; value(&e, v), row.2, "{e:?}");
+    }
+    Ok(())
+}
+
 #[test]
-fn each_expression_has_its_value(rt: HostRuntime) -> Result<(), Fail> {
+fn plain_values(rt: HostRuntime) -> Result<(), Fail> {
     let alloc = rt.alloc();
     let mut v = Environment::plain(CoreId(2));
-    check(&rt, nothing_rows(alloc)?.as_slice(), &v);
+    check(
+        &rt,
+        &v,
+        &[
+            (Expr::Kind, 0),
+            (Expr::Size, 0),
+            (Expr::Me, 0),
+            (Expr::Queue, 0),
+            (Expr::Var(15), 0),
+        ],
+    );
+    one(&rt, alloc, &v, Expr::Word, &[(0, 0)])?;
+    one(&rt, alloc, &v, Expr::Cell, &[(8, 0)])?;
     v.variables[3] = 7;
     v.kind = 4294967295;
-    v.words.push(10);
-    v.words.push(20);
-    v.words.push(MAX);
     v.me = 65536;
     v.queue = QueueId(9);
     v.cells = Some(Cells([100, 101, 102, 103, 104, 105, 106, 107]));
-    check(&rt, plain_rows(alloc)?.as_slice(), &v);
-    check(&rt, indexed_rows(alloc)?.as_slice(), &v);
-    check(&rt, sum_rows(alloc)?.as_slice(), &v);
-    check(&rt, bit_rows(alloc)?.as_slice(), &v);
+    check(
+        &rt,
+        &v,
+        &[
+            (Expr::Number(MAX), MAX),
+            (Expr::Var(3), 7),
+            (Expr::Kind, 4294967295),
+            (Expr::Me, 65536),
+            (Expr::Queue, 9),
+            (Expr::Core, 2),
+        ],
+    );
+    check(
+        &rt,
+        &v,
+        &[(Expr::LastOk, 1), (Expr::FaultNumber, 0), (Expr::Detail, 0)],
+    );
+    one(
+        &rt,
+        alloc,
+        &v,
+        Expr::Cell,
+        &[(1, 101), (8, 100), (MAX, 107)],
+    )?;
+    Ok(())
+}
+
+#[test]
+fn words_of_the_event(rt: HostRuntime) -> Result<(), Fail> {
+    let mut v = Environment::plain(CoreId(2));
+    let mut words = Words::new();
+    words.push(10);
+    words.push(20);
+    words.push(MAX);
+    v.words = words;
+    check(&rt, &v, &[(Expr::Size, 3)]);
+    one(
+        &rt,
+        rt.alloc(),
+        &v,
+        Expr::Word,
+        &[(0, 10), (2, MAX), (3, 0), (MAX, 0)],
+    )?;
+    Ok(())
+}
+
+#[test]
+fn arithmetic(rt: HostRuntime) -> Result<(), Fail> {
+    let alloc = rt.alloc();
+    let v = Environment::plain(CoreId(0));
+    two(
+        &rt,
+        alloc,
+        &v,
+        Expr::Add,
+        &[(2, 3, 5), (MAX, 1, 0), (MAX, MAX, 18446744073709551614)],
+    )?;
+    two(
+        &rt,
+        alloc,
+        &v,
+        Expr::Sub,
+        &[(7, 5, 2), (5, 7, 18446744073709551614), (0, MAX, 1)],
+    )?;
+    two(
+        &rt,
+        alloc,
+        &v,
+        Expr::Mul,
+        &[
+            (6, 7, 42),
+            (HALF, 2, 0),
+            (MAX, MAX, 1),
+            (WORD, 4294967297, WORD),
+        ],
+    )?;
+    Ok(())
+}
+
+#[test]
+fn bits(rt: HostRuntime) -> Result<(), Fail> {
+    let alloc = rt.alloc();
+    let v = Environment::plain(CoreId(0));
+    two(&rt, alloc, &v, Expr::And, &[(12, 10, 8)])?;
+    two(&rt, alloc, &v, Expr::Or, &[(12, 10, 14)])?;
+    two(&rt, alloc, &v, Expr::Xor, &[(12, 10, 6)])?;
+    two(
+        &rt,
+        alloc,
+        &v,
+        Expr::Shr,
+        &[
+            (256, 4, 16),
+            (MAX, 63, 1),
+            (5, 64, 5),
+            (6, 65, 3),
+            (MAX, 127, 1),
+        ],
+    )?;
+    Ok(())
+}
+
+#[test]
+fn tests_of_numbers(rt: HostRuntime) -> Result<(), Fail> {
+    let alloc = rt.alloc();
+    let v = Environment::plain(CoreId(0));
+    two(
+        &rt,
+        alloc,
+        &v,
+        Expr::Lt,
+        &[(1, 2, 1), (2, 2, 0), (MAX, 0, 0)],
+    )?;
+    two(&rt, alloc, &v, Expr::Eq, &[(MAX, MAX, 1), (0, MAX, 0)])?;
     Ok(())
 }
