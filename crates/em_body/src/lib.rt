@@ -5,8 +5,6 @@ mod asks;
 mod environment;
 pub mod run;
 mod stack;
-#[cfg(test)]
-mod tests;
 mod values;
 
 ghost use Rattle.em_body.specs.Followed.{BodiesAreFollowed, ContextsAreBounded, EndsWhereNothingIsLeft, LeadsAreRead, SilentWhereNothingIsAsked};

@@ -192,3 +192,6 @@ impl<'a> Work for BodyRun<'a> {
         self.environment.cells
     }
 }
+
+#[cfg(test)]
+mod tests;
