@@ -1,11 +1,11 @@
--- The example is well formed where its bodies are.
-use Rattle.std.proofs.Common.{◌≡◌, true, List, refl, arith, IsTrue}
-use Rattle.em_log.specs.declared.body.Stmt.{Stmt}
-use Rattle.em_log.specs.WellFormed.{IsWellFormed, AreFew}
-use Rattle.em_body.specs.Example.{example, are_fit}
+-- The example is well formed.
+use Rattle.std.proofs.Common.{◌≡◌, refl, arith}
+use Rattle.em_log.specs.WellFormed.{IsWellFormed}
+use Rattle.em_body.specs.Example.{example, counting}
 
-pub example-well : (receive start : List Stmt) → IsTrue (are_fit receive start) → IsWellFormed (example receive start)
-example-well receive start fit =
+pub counting-well : IsWellFormed (example counting)
+unfolding Rattle.em_log.specs.declared.body.Expr.TheBlock.hidden-the_row-Expr-0 denote.Hole.Carrier.hidden Rattle.em_log.specs.declared.body.Stmt.TheBlock.hidden-the_row-Stmt-0
+counting-well =
     record {
       few = record {
         cores = (omega arith, omega arith);
@@ -25,5 +25,5 @@ example-well receive start fit =
       queues = refl;
       boot = refl;
       error = refl;
-      eos = rw fit refl;
+      eos = refl;
     }

@@ -1,19 +1,15 @@
 //! What each statement asks and leaves, and a whole body.
-ghost use Rattle.std.specs.Prelude.{◌≡◌, ◌≤◌, ◌∷◌, ◌++◌, [], IfOk, IsTrue, None, length, true};
-ghost use Rattle.em_log.specs.declared.body.Expr.TheVariants as expr;
-ghost use Rattle.em_log.specs.declared.body.Stmt.TheVariants as stmt;
+ghost use Rattle.std.specs.Prelude.{◌≡◌, ◌≤◌, ◌∷◌, [], IfOk, IsTrue, None, length};
 ghost use Rattle.em_log.specs.WellFormed.{IsWellFormed};
 ghost use Rattle.em_log.specs.Works.{fits as fits_by};
-ghost use Rattle.em_body.specs.Example.{example, are_fit};
+ghost use Rattle.em_body.specs.Example.{example, counting};
 ghost use Rattle.em_body.specs.Standings.{is_small, unanswered};
 
 use super::*;
 use em_log::{
     Ask, Block, Decl, EoDecl, EoId, Event, EventGroupId, Expr, Fault, Given, GroupId, Handle, Kind,
-    List, Name, NoMemory, OpId, PoolDecl, PoolId, Priority, QueueDecl, QueueId, Receive, Rest,
-    Words,
+    List, Name, NoMemory, OpId, PoolId, Priority, QueueDecl, QueueId, Receive, Rest, Words,
 };
-use sqlite_items::Boxed;
 use std::alloc::Global;
 use std::process::Abort;
 use std::test::Fail;
@@ -67,12 +63,12 @@ fn compare(
     if let Move::Ask(_) = &made {
         v.answered(s, answer);
     }
-    let size = v.words.as_slice().len();
-    let cell = v.cells.map_or(0, |cells| cells.0[1]);
-    let text = format!(in alloc;
-        "{made:?} {} {} {} {size} {cell}",
-        v.ok, v.variables[0], v.kind
-    )?;
+    let cell = match v.cells {
+        Some(cells) => cells.0[1],
+        None => 0,
+    };
+    let (ok, variable, kind, size) = (v.ok, v.variables[0], v.kind, v.words.as_slice().len());
+    let text = format!(in alloc; "{made:?} {ok} {variable} {kind} {size} {cell}")?;
     assert_eq!(rt; text.as_str(), want);
     Ok(())
 }
@@ -378,5 +374,153 @@ fn operations(rt: HostRuntime) -> Result<(), Fail> {
         &Answer::Refused(Fault::BadMask(1)),
         "Ask(Modify { group: GroupId(0), mask: 1, notes: Notes { items: [] } }) false 9 7 2 41",
     )?;
+    Ok(())
+}
+
+// a whole body
+
+fn counting_block(alloc: Global) -> Result<Block, NoMemory>
+    ensures { IfOk result (λ block. block ≡ counting) }
+{
+    let inner = single(
+        alloc,
+        Stmt::Repeat {
+            times: 256,
+            block: List::new(alloc),
+        },
+    )?;
+    let mut block = single(
+        alloc,
+        Stmt::Repeat {
+            times: 256,
+            block: inner,
+        },
+    )?;
+    block.push(Stmt::Free(Expr::Me))?;
+    Ok(block)
+}
+
+fn single<T: Drop>(alloc: Global, item: T) -> Result<List<T>, NoMemory>
+    ensures { IfOk result (λ items. items ≡ item ∷ []) }
+{
+    let mut items = List::new(alloc);
+    items.push(item)?;
+    Ok(items)
+}
+
+fn order(alloc: Global) -> Result<List<Decl>, NoMemory>
+    ensures { IfOk result (λ order. order ≡ Decl.Eo 0 ∷ Decl.Queue 0 ∷ []) }
+{
+    let mut order = List::new(alloc);
+    order.push(Decl::Eo(0))?;
+    order.push(Decl::Queue(0))?;
+    Ok(order)
+}
+
+fn object(alloc: Global, receive: Block) -> Result<List<EoDecl>, NoMemory>
+    ensures { IfOk result (λ eos. eos ≡ (example receive).eos) }
+{
+    single(
+        alloc,
+        EoDecl {
+            name: Name::new("x").ok_or(NoMemory)?,
+            running: true,
+            receive,
+            start: List::new(alloc),
+            stop: List::new(alloc),
+            lstart: List::new(alloc),
+            lstop: List::new(alloc),
+            error: None,
+            given: Given {
+                receive: true,
+                start: false,
+                stop: false,
+                lstart: false,
+                lstop: false,
+            },
+        },
+    )
+}
+
+fn graph(alloc: Global, receive: Block) -> Result<Config, NoMemory>
+    ensures { IfOk result (λ g. g ≡ example receive) }
+{
+    let queue = QueueDecl {
+        name: Name::new("q").ok_or(NoMemory)?,
+        kind: Kind::Parallel,
+        eo: Some(EoId(0)),
+        priority: Some(Priority::Normal),
+        group: Some(GroupId(0)),
+        agroup: None,
+    };
+    Ok(Config {
+        cores: 1,
+        order: order(alloc)?,
+        pools: List::new(alloc),
+        groups: List::new(alloc),
+        eos: object(alloc, receive)?,
+        agroups: List::new(alloc),
+        queues: single(alloc, queue)?,
+        egroups: List::new(alloc),
+        boot: List::new(alloc),
+        error: None,
+    })
+}
+
+fn counting_graph(alloc: Global) -> Result<Config, NoMemory>
+    ensures { IfOk result IsWellFormed }
+{
+    graph(alloc, counting_block(alloc)?)
+}
+
+/// The next move, and its ask's answer, which is `Done`.
+fn exchange(rt: &impl Abort, run: &mut BodyRun<'_>) -> Move
+    requires { unanswered run.old.standing ≡ None }
+    ensures { unanswered run.new.standing ≡ None }
+{
+    let made = run.next();
+    if let Move::Ask(ask) = &made {
+        assert!(rt; may_be_done(ask));
+        run.answer(&Answer::Done);
+    }
+    made
+}
+
+fn may_be_done(ask: &Ask) -> bool
+    ensures { result ≡ fits_by ask.now Answer.Done }
+{
+    !matches!(
+        ask,
+        Ask::Alloc { .. } | Ask::Claim | Ask::Dequeue(_) | Ask::Cell | Ask::Fail
+    )
+}
+
+/// How many moves a context makes before its end.
+fn moves(rt: &impl Abort, run: &mut BodyRun<'_>) -> u32
+    requires { unanswered run.old.standing ≡ None }
+{
+    let mut n = 0;
+    for i in 0..1000 {
+        if let Move::End = exchange(rt, run) {
+            break;
+        }
+        n = i + 1;
+    }
+    n
+}
+
+#[test]
+fn empty_rounds_take_no_moves(rt: HostRuntime) -> Result<(), Fail> {
+    let config = counting_graph(rt.alloc())?;
+    let mut run = BodyRun::new(&config, CoreId(0));
+    run.begin(&received(Some(CELLS)));
+    assert_eq!(rt;
+        moves(&rt, &mut run),
+        258,
+        "the outer block, 256 inner ones and a free"
+    );
+    assert_eq!(rt; run.cells(), Some(CELLS));
+    run.begin(&Context::GlobalStop(OpId(0), EoId(1)));
+    assert_eq!(rt; moves(&rt, &mut run), 0, "an object that is not declared");
     Ok(())
 }
