@@ -1,5 +1,8 @@
 -- The example is well formed.
-use Rattle.std.proofs.Common.{◌≡◌, refl, arith}
+use Rattle.std.proofs.Common.{◌≡◌, ◌∙◌, List, refl, sym, ap, subst, arith}
+use Rattle.std.specs.Prelude.{Result, Ok, Err, IfOk}
+use Rattle.em_log.specs.declared.body.Stmt.{Stmt}
+use Rattle.em_log.specs.declared.graph.Config.{Config}
 use Rattle.em_log.specs.WellFormed.{IsWellFormed}
 use Rattle.em_body.specs.Example.{example, counting}
 
@@ -27,3 +30,8 @@ counting-well =
       error = refl;
       eos = refl;
     }
+
+pub if-well : {E : Type 0} (r : Result Config E) (receive : List Stmt) → receive ≡ counting → IfOk r (λ g. g ≡ example receive)
+    → IfOk r IsWellFormed
+if-well (Ok g) receive is same = subst (λ x. IsWellFormed x) (sym (same ∙ ap example is)) counting-well
+if-well (Err e) receive is same = same
