@@ -1,15 +1,13 @@
 -- What an answer leaves is what the entry that it is read from leaves.
-use Rattle.std.proofs.Common.{◌≡◌, ℕ, Bool, true, false, List, [], ◌∷◌, ◌++◌, Option, Some, None, IsTrue, refl, sym, ap, ◌∙◌, subst}
+use Rattle.std.proofs.Common.{◌≡◌, true, false, List, [], ◌∷◌, Option, Some, None, refl, sym, ap, ◌∙◌, subst}
 use Rattle.std.proofs.lemmas.Bool.{both_ways}
 use Rattle.std.specs.Option.{option_map}
 use Rattle.em_log.specs.declared.ask.Answer.{Answer}
 use Rattle.em_log.specs.declared.ask.Ask.{Ask}
 use Rattle.em_log.specs.declared.body.Stmt.{Stmt}
 use Rattle.em_log.specs.declared.entry.What.{What}
-use Rattle.em_log.specs.declared.fault.Fault.{Fault}
-use Rattle.em_log.specs.declared.ids.EoId.{EoId}
 use Rattle.em_log.specs.Answers.{answer_of}
-use Rattle.em_log.specs.Bodies.{Pair, Reading, Behavior, Handler, ask_of, variable, asks, stays, and_then, with_pairs}
+use Rattle.em_log.specs.Bodies.{Pair, Behavior, ask_of, variable, stays, and_then, with_pairs}
 use Rattle.em_log.specs.Bodies.{answered as answered_by}
 use Rattle.em_log.specs.Expressions.{Env}
 use Rattle.em_log.specs.Leads.{call_of}

@@ -1,10 +1,9 @@
 -- With no entry to read, a body makes no pair and leaves no entry.
-use Rattle.std.proofs.Common.{◌≡◌, ℕ, zero, suc, List, [], ◌∷◌, ◌++◌, Option, Some, None, refl, sym, ap, ◌∙◌}
-use Rattle.em_log.specs.declared.body.Expr.{Expr}
+use Rattle.std.proofs.Common.{◌≡◌, ℕ, zero, suc, List, [], ◌∷◌, Option, Some, None, refl}
 use Rattle.em_log.specs.declared.body.Stmt.{Stmt}
 use Rattle.em_log.specs.declared.body.Stmt.TheBlock.{Row_of-Stmt, end_of-Stmt, more_of-Stmt}
 use Rattle.em_log.specs.declared.entry.What.{What}
-use Rattle.em_log.specs.Bodies.{Pair, Reading, Behavior, Handler, ask_of, variable, asks, writes, cut, stays, continued, and_then, turns, branch, with_pairs, follow, follow_row, follow_all}
+use Rattle.em_log.specs.Bodies.{Pair, Reading, Behavior, Handler, writes, stays, continued, and_then, turns, branch, follow, follow_row, follow_all}
 use Rattle.em_log.specs.Expressions.{Env, value}
 use Rattle.em_body.specs.Standings.{Left, Standing}
 use Rattle.em_body.specs.Followed.{follow_block, follow_left, follow_asking, ahead}

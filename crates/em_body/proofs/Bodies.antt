@@ -1,20 +1,18 @@
 -- The bodies of a well-formed graph.
-use Rattle.std.proofs.Common.{◌≡◌, ℕ, zero, suc, ◌+◌, ◌<◌, ◌≤◌, ◌&&◌, ◌||◌, Bool, true, false, List, [], ◌∷◌, length, Option, Some, None, refl, sym, ap, ◌∙◌, subst, arith, IsTrue}
+use Rattle.std.proofs.Common.{◌≡◌, ℕ, zero, suc, ◌&&◌, Bool, true, List, [], ◌∷◌, length, Option, Some, None, refl, subst, arith, IsTrue}
 use Rattle.std.proofs.lemmas.Bool.{and_parts}
 use Rattle.std.specs.Prelude.{nat_le, nat_lt, slice_get}
-use Rattle.std.specs.Option.{option_map_or, option_and_then, option_or}
+use Rattle.std.specs.Option.{option_map_or, option_or}
 use Rattle.std.specs.List.{list_all}
 use Rattle.em_log.specs.declared.ask.Context.{Context}
 use Rattle.em_log.specs.declared.body.Stmt.{Stmt}
-use Rattle.em_log.specs.declared.entry.What.{What}
-use Rattle.em_log.specs.declared.entry.Body.{Body}
 use Rattle.em_log.specs.declared.graph.Config.{Config}
 use Rattle.em_log.specs.declared.graph.EoDecl.{EoDecl}
-use Rattle.em_log.specs.Legal.{body_for, body_in}
+use Rattle.em_log.specs.Legal.{body_for}
 use Rattle.em_log.specs.Weights.{weight_of, steps_of}
 use Rattle.em_log.specs.WellFormed.{Where, Boot, Receive, Start, OtherOfObject, is_statement, is_plain, is_body, are_bodies, is_error_body, are_given, is_expression, are_expressions, is_variable, are_note_expressions, is_group_number, is_note, may_begin, IsWellFormed}
-use Rattle.em_body.specs.Standings.{Left, entered, is_small, body_of, object_of, entry_of}
-use Rattle.em_body.specs.Runs.{IsBlock, AreNested, IsSound}
+use Rattle.em_body.specs.Standings.{entered, is_small, body_of, entry_of}
+use Rattle.em_body.specs.Runs.{IsSound}
 use Rattle.em_body.proofs.NestedBlocks.{entered-nested, nested-less}
 
 -- the statements of a script have no more words and notes than their asks

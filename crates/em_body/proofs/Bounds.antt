@@ -1,5 +1,5 @@
 -- How much a context of a well-formed graph does at most.
-use Rattle.std.proofs.Common.{◌≡◌, ℕ, zero, suc, ◌+◌, ◌*◌, ◌≤◌, ◌&&◌, List, [], ◌∷◌, Option, Some, None, IsTrue, true, false, refl, sym, ap, ◌∙◌, subst, arith}
+use Rattle.std.proofs.Common.{◌≡◌, ℕ, ◌+◌, ◌*◌, ◌≤◌, ◌&&◌, List, [], ◌∷◌, Some, None, ap, ◌∙◌, arith}
 use Rattle.std.proofs.lemmas.Bool.{and_parts, leb-true}
 use Rattle.std.proofs.lemmas.List.Sums.{sum_by-cons}
 use Rattle.std.specs.Prelude.{nat_le}
@@ -14,9 +14,9 @@ use Rattle.em_log.specs.Allowance.{cost_of_ask}
 use Rattle.em_log.specs.Weights.{weight, weight_of, steps, steps_of}
 use Rattle.em_log.specs.WellFormed.{IsWellFormed, is_statement}
 use Rattle.em_log.specs.Works.{Exchange, Reached}
-use Rattle.em_body.specs.Standings.{Made, Left, Standing, Moves, Leaves, unanswered, body_of, begun, entered}
+use Rattle.em_body.specs.Standings.{Made, Standing, unanswered, body_of}
 use Rattle.em_body.specs.Followed.{IsReached, carried_out, cost_of_all}
-use Rattle.em_body.proofs.Bodies.{IsServed, body-served}
+use Rattle.em_body.proofs.Bodies.{body-served}
 use Rattle.em_body.proofs.Measures.{total, left_sum, entered-sum, weight_of-sum, steps_of-sum, moves-weight, moves-steps}
 
 abbrev body-weight : ℕ → Made → Context → ℕ

@@ -1,5 +1,5 @@
 -- What is known of a statement that was carried out.
-use Rattle.std.proofs.Common.{◌≡◌, ℕ, ◌%◌, List, Option, Some, None, true, refl, sym, ap, subst, ◌∙◌, slice_set}
+use Rattle.std.proofs.Common.{◌≡◌, ◌%◌, List, Option, Some, None, true, refl, sym, ap, subst, ◌∙◌, slice_set}
 use Rattle.std.specs.Option.{option_map, is_some}
 use Rattle.em_log.specs.declared.ask.Ask.{Ask}
 use Rattle.em_log.specs.declared.body.Expr.{Expr}

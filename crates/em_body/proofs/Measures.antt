@@ -1,12 +1,7 @@
 -- What is left of a body weighs no more than the body, less what has been carried out.
-use Rattle.std.proofs.Common.{◌≡◌, ℕ, zero, suc, ◌+◌, ◌*◌, ◌≤◌, max, List, [], ◌∷◌, length, Option, Some, None, IsTrue, true, false, refl, sym, ap, ◌∙◌, subst, arith}
-use Rattle.std.specs.Prelude.{is_none}
+use Rattle.std.proofs.Common.{◌≡◌, ℕ, zero, suc, ◌+◌, ◌*◌, ◌≤◌, max, List, [], ◌∷◌, length, Some, None, IsTrue, refl, ap, ◌∙◌, arith}
 use Rattle.std.specs.Option.{option_map_or}
-use Rattle.em_log.specs.declared.ask.Ask.{Ask}
-use Rattle.em_log.specs.declared.body.Expr.{Expr}
 use Rattle.em_log.specs.declared.body.Stmt.{Stmt}
-use Rattle.em_log.specs.declared.body.Stmt.TheVariants as stmt
-use Rattle.em_log.specs.declared.ids.Note.{Note}
 use Rattle.em_log.specs.declared.work.Move.{Move}
 use Rattle.em_log.specs.Allowance.{cost_of_ask}
 use Rattle.em_log.specs.Bodies.{ask_of, notes_in}

@@ -1,8 +1,7 @@
 -- What is left of a body of a well-formed graph is nested no deeper than a script's blocks.
-use Rattle.std.proofs.Common.{◌≡◌, ℕ, zero, suc, ◌+◌, ◌<◌, ◌≤◌, ◌&&◌, ◌||◌, Bool, true, false, List, [], ◌∷◌, length, Option, Some, None, refl, sym, ap, ◌∙◌, subst, arith, IsTrue}
+use Rattle.std.proofs.Common.{◌≡◌, ℕ, zero, suc, ◌+◌, ◌<◌, ◌≤◌, ◌&&◌, ◌||◌, Bool, List, [], ◌∷◌, length, Some, None, refl, sym, ap, ◌∙◌, subst, arith, IsTrue}
 use Rattle.std.proofs.lemmas.Bool.{and_parts}
-use Rattle.std.specs.Prelude.{nat_le, slice_get}
-use Rattle.std.specs.Option.{option_map_or, option_and_then}
+use Rattle.std.specs.Prelude.{nat_le}
 use Rattle.std.specs.List.{list_all}
 use Rattle.em_log.specs.declared.body.Expr.{Expr}
 use Rattle.em_log.specs.declared.body.Stmt.{Stmt}
@@ -10,10 +9,10 @@ use Rattle.em_log.specs.declared.body.Stmt.TheBlock.{hidden-the_row-Stmt-0}
 use Rattle.em_log.specs.declared.body.Stmt.TheVariants as stmt
 use Rattle.em_log.specs.declared.graph.Config.{Config}
 use Rattle.em_log.specs.declared.work.Move.{Move}
-use Rattle.em_log.specs.Expressions.{Env, value}
+use Rattle.em_log.specs.Expressions.{value}
 use Rattle.em_log.specs.WellFormed.{Where, is_statement, is_expression, is_empty_row}
-use Rattle.em_body.specs.Standings.{Left, Standing, Does, Sets, Branches, Repeats, Writes, Asks, entered, resumed, first_in, first_of, without_first, after_first, chosen, nests, is_small}
-use Rattle.em_body.specs.Runs.{IsBlock, AreNested, IsSound}
+use Rattle.em_body.specs.Standings.{Left, Standing, Does, Sets, Branches, Repeats, Writes, Asks, entered, resumed, first_in, first_of, without_first, after_first, chosen, nests}
+use Rattle.em_body.specs.Runs.{AreNested, IsSound}
 use Rattle.em_body.proofs.Rows.{if-statement, if-nests, repeat-statement, repeat-nests}
 
 abbrev AllFit : Config → Where → ℕ → List Stmt → Type 0

@@ -1,5 +1,5 @@
 -- In each state that a context reaches its body has been followed.
-use Rattle.std.proofs.Common.{◌≡◌, ℕ, zero, suc, List, [], ◌∷◌, ◌++◌, reverse, Option, Some, None, IsSome, refl, sym, ap, ◌∙◌, subst, append_assoc}
+use Rattle.std.proofs.Common.{◌≡◌, List, [], ◌∷◌, ◌++◌, reverse, Option, Some, None, IsSome, refl, sym, ap, ◌∙◌, subst, append_assoc}
 use Rattle.std.proofs.lemmas.List.{reverse-append}
 use Rattle.em_log.specs.declared.ask.Answer.{Answer}
 use Rattle.em_log.specs.declared.ask.Ask.{Ask}
@@ -7,11 +7,11 @@ use Rattle.em_log.specs.declared.ask.Context.{Context}
 use Rattle.em_log.specs.declared.body.Stmt.{Stmt}
 use Rattle.em_log.specs.declared.entry.What.{What}
 use Rattle.em_log.specs.declared.work.Move.{Move}
-use Rattle.em_log.specs.Bodies.{Pair, Reading, Behavior, ask_of, variable, asks, stays, and_then, turns, with_pairs, follow_all}
+use Rattle.em_log.specs.Bodies.{Pair, Reading, Behavior, turns, with_pairs, follow_all}
 use Rattle.em_log.specs.Expressions.{Env}
 use Rattle.em_log.specs.Works.{Exchange, Reached}
-use Rattle.em_body.specs.Standings.{Left, Made, Standing, Begins, Moves, Leaves, unanswered, body_of, opening, begun}
-use Rattle.em_body.specs.Followed.{Reads, AreRead, pairs_of, unserving, follow_left, follow_asking, ahead, IsReached, reading, IsFollowed}
+use Rattle.em_body.specs.Standings.{Left, Made, Standing, Begins, Leaves, unanswered, body_of, opening, begun}
+use Rattle.em_body.specs.Followed.{AreRead, pairs_of, unserving, follow_asking, ahead, IsReached, reading, IsFollowed}
 use Rattle.em_body.proofs.Readings.{with_pairs-append, and_then-end, turns-one}
 use Rattle.em_body.proofs.Remaining.{entered-follow, moves-ahead}
 use Rattle.em_body.proofs.AnswersRead.{leaves-ahead}

@@ -1,17 +1,15 @@
 -- What is left of a body is read as the rest of the body's reading.
-use Rattle.std.proofs.Common.{◌≡◌, ℕ, zero, suc, List, [], ◌∷◌, Option, Some, None, IsTrue, true, false, refl, sym, ap, ◌∙◌, subst}
+use Rattle.std.proofs.Common.{◌≡◌, ℕ, zero, suc, List, [], ◌∷◌, Option, Some, None, IsTrue, refl, sym, ap, ◌∙◌}
 use Rattle.std.specs.Prelude.{is_none}
-use Rattle.em_log.specs.declared.body.Expr.{Expr}
 use Rattle.em_log.specs.declared.body.Stmt.{Stmt}
-use Rattle.em_log.specs.declared.body.Stmt.TheVariants as stmt
 use Rattle.em_log.specs.declared.entry.What.{What}
 use Rattle.em_log.specs.declared.ask.Ask.{Ask}
 use Rattle.em_log.specs.declared.work.Move.{Move}
 use Rattle.em_log.specs.Expressions.{Env, value, with_var}
-use Rattle.em_log.specs.Bodies.{Reading, Behavior, Handler, ask_of, variable, asks, writes, stays, and_then, turns, branch, follow, follow_all}
+use Rattle.em_log.specs.Bodies.{Behavior, Handler, ask_of, variable, asks, writes, and_then, turns, branch, follow, follow_all}
 use Rattle.em_body.specs.Standings.{Made, Left, Standing, Does, Sets, Branches, Repeats, Writes, Asks, Moves, Ends, Goes, entered, resumed, first_in, first_of, without_first, after_first, chosen, does_ask}
-use Rattle.em_body.specs.Followed.{follow_block, follow_left, follow_asking, ahead}
-use Rattle.em_body.proofs.Readings.{and_then-stays, and_then-assoc, and_then-end, behavior, turns-none, turns-one}
+use Rattle.em_body.specs.Followed.{follow_left, follow_asking, ahead}
+use Rattle.em_body.proofs.Readings.{and_then-stays, and_then-assoc, behavior, turns-none, turns-one}
 use Rattle.em_body.proofs.Rows.{if-follow, repeat-follow}
 
 -- blocks

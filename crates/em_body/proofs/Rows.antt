@@ -1,5 +1,5 @@
 -- What the definitions say of a statement's blocks, which they read as rows, said of lists.
-use Rattle.std.proofs.Common.{◌≡◌, ℕ, zero, suc, ◌+◌, ◌*◌, max, ◌&&◌, ◌||◌, Bool, true, false, List, [], ◌∷◌, refl, sym, ap, ◌∙◌}
+use Rattle.std.proofs.Common.{◌≡◌, ℕ, suc, ◌+◌, ◌*◌, max, ◌&&◌, ◌||◌, Bool, false, List, [], ◌∷◌, refl, ap, ◌∙◌}
 use Rattle.std.proofs.Math.Path.{fun_ext}
 use Rattle.std.specs.Prelude.{nat_le}
 use Rattle.std.specs.List.{list_all}
@@ -10,7 +10,7 @@ use Rattle.em_log.specs.declared.body.Stmt.TheVariants as stmt
 use Rattle.em_log.specs.declared.graph.Config.{Config}
 use Rattle.em_log.specs.declared.entry.What.{What}
 use Rattle.em_log.specs.Expressions.{Env, value}
-use Rattle.em_log.specs.Bodies.{Handler, Behavior, Reading, branch, turns, and_then, follow, follow_row, follow_all}
+use Rattle.em_log.specs.Bodies.{Handler, branch, turns, and_then, follow, follow_row, follow_all}
 use Rattle.em_log.specs.Weights.{weight, weight_row, weight_of, steps, steps_row, steps_of}
 use Rattle.em_log.specs.WellFormed.{Where, is_statement, are_statements, is_expression, is_empty_row}
 

@@ -1,12 +1,12 @@
 -- A silent move carries out one statement, which asks nothing.
-use Rattle.std.proofs.Common.{◌≡◌, ℕ, List, Option, Some, None, true, false, refl, sym, ap, ◌∙◌}
+use Rattle.std.proofs.Common.{◌≡◌, ℕ, List, Some, false, refl, ap, ◌∙◌}
 use Rattle.std.specs.Prelude.{is_none}
 use Rattle.em_log.specs.declared.body.Expr.{Expr}
 use Rattle.em_log.specs.declared.body.Stmt.{Stmt}
 use Rattle.em_log.specs.declared.body.Stmt.TheVariants as stmt
 use Rattle.em_log.specs.declared.work.Move.{Move}
 use Rattle.em_log.specs.Expressions.{Env}
-use Rattle.em_body.specs.Standings.{Made, Standing, Does, Sets, Branches, Repeats, Writes, Asks, Moves, Ends, Goes, first_of, after_first, does_ask}
+use Rattle.em_body.specs.Standings.{Made, Standing, Does, Sets, Branches, Repeats, Writes, Asks, Moves, Ends, Goes, first_of, does_ask}
 
 if-silent : (t : Expr) (first second : List Stmt) (h : _) (v : Env) → does_ask (stmt.If t first second h) v ≡ false
 unfolding Rattle.em_log.specs.declared.body.Stmt.TheBlock.hidden-the_row-Stmt-0 denote.Hole.Carrier.hidden

@@ -1,5 +1,5 @@
 -- A body is followed: what its asks are answered is what the reading of the body makes of it.
-use Rattle.std.specs.Prelude.{ℕ, zero, suc, ◌+◌, ◌≤◌, ◌≡◌, Bool, true, false, List, [], ◌∷◌, ◌++◌, reverse, Option, Some, None, IsTrue, IsSome}
+use Rattle.std.specs.Prelude.{ℕ, suc, ◌+◌, ◌≤◌, ◌≡◌, Bool, true, false, List, [], ◌∷◌, ◌++◌, reverse, Option, Some, None, IsTrue, IsSome}
 use Rattle.std.specs.Option.{option_map_or}
 use Rattle.std.specs.List.{sum_by}
 use Rattle.em_log.specs.declared.ask.Answer.{Answer}
@@ -14,7 +14,6 @@ use Rattle.em_log.specs.declared.work.Move.{Move}
 use Rattle.em_log.specs.Allowance.{cost_of_ask}
 use Rattle.em_log.specs.Answers.{answer_of}
 use Rattle.em_log.specs.Bodies.{Pair, Reading, Behavior, Handler, ask_of, variable, asks, stays, and_then, turns, with_pairs, follow_all, serves}
-use Rattle.em_log.specs.Expressions.{Env}
 use Rattle.em_log.specs.History.{Past}
 use Rattle.em_log.specs.Leads.{call_of, lead}
 use Rattle.em_log.specs.WellFormed.{IsWellFormed}

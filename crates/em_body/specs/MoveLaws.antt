@@ -1,15 +1,14 @@
 -- Which ask each move of a body leaves unanswered.
-use Rattle.std.proofs.Common.{◌≡◌, ℕ, Bool, true, false, List, Option, Some, None, IsTrue, refl, sym, ap, ◌∙◌, subst}
+use Rattle.std.proofs.Common.{◌≡◌, None, IsTrue, refl, sym, ap, ◌∙◌, subst}
 use Rattle.std.specs.Option.{option_map}
 use Rattle.em_log.specs.declared.ask.Answer.{Answer}
-use Rattle.em_log.specs.declared.ask.Ask.{Ask}
 use Rattle.em_log.specs.declared.ask.Context.{Context}
 use Rattle.em_log.specs.declared.body.Stmt.{Stmt}
 use Rattle.em_log.specs.declared.work.Move.{Move}
 use Rattle.em_log.specs.Bodies.{ask_of}
 use Rattle.em_log.specs.Expressions.{Env}
 use Rattle.em_log.specs.Works.{asked, asks_no_end}
-use Rattle.em_body.specs.Standings.{Made, Standing, Does, Sets, Branches, Repeats, Writes, Asks, Moves, Ends, Goes, Begins, Leaves, unanswered, begun, left_by}
+use Rattle.em_body.specs.Standings.{Made, Standing, Does, Sets, Branches, Repeats, Writes, Asks, Moves, Ends, Goes, Begins, Leaves, unanswered}
 
 pub begins-unasked : (f : Made) (c : Context) (s : Standing) → Begins f c s → unanswered s ≡ None
 begins-unasked f c s is = ap unanswered is

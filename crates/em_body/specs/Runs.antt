@@ -1,8 +1,7 @@
 -- What is kept of a body that runs, beside where it stands: that its blocks are not nested too deep, and that its
 -- statements fit their asks.
-use Rattle.std.specs.Prelude.{ℕ, suc, ◌+◌, ◌<◌, ◌≤◌, ◌≡◌, Bool, List, [], ◌∷◌, length, map, reverse, IsTrue, Option, Some, None}
+use Rattle.std.specs.Prelude.{ℕ, suc, ◌<◌, ◌≤◌, List, [], ◌∷◌, length, IsTrue}
 use Rattle.std.specs.List.{list_all}
-use Rattle.em_log.specs.declared.body.Stmt.{Stmt}
 use Rattle.em_log.specs.declared.graph.Config.{Config}
 use Rattle.em_log.specs.WellFormed.{Where, IsWellFormed, is_statement}
 use Rattle.em_body.specs.Standings.{Left}

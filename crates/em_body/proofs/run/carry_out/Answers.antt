@@ -1,5 +1,4 @@
 use Rattle.std.proofs.Common.{refl, sym}
-use Rattle.em_body.specs.Environments.{env_of}
 use Rattle.em_body.specs.Standings.{Sets, Branches, Repeats}
 use Rattle.em_body.proofs.Carried.{write-does}
 use Rattle.em_body.proofs.run.carry_out.Goals as goal

@@ -1,4 +1,4 @@
-use Rattle.std.proofs.Common.{◌≡◌, ◌∙◌, ap, slice_index, ◌+◌, ◌-◌, ◌*◌, ◌/◌, ◌%◌, ◌^◌, ◌==◌, nat_lt, bit_and, bit_or}
+use Rattle.std.proofs.Common.{◌∙◌, ap, slice_index, ◌+◌, ◌-◌, ◌*◌, ◌/◌, ◌%◌, ◌^◌, ◌==◌, nat_lt, bit_and, bit_or}
 use Rattle.std.specs.Prelude.{bit_xor}
 use Rattle.em_log.specs.declared.body.Expr.TheVariants as expr
 use Rattle.em_log.specs.Expressions.{wrapped, truth, cell_at}

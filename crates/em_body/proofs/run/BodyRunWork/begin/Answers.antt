@@ -1,6 +1,3 @@
-use Rattle.std.proofs.Common.{◌≡◌, ◌∙◌, ap, sym, subst}
-use Rattle.em_body.specs.Standings.{entered}
-use Rattle.em_body.specs.Runs.{IsSound}
 use Rattle.em_body.proofs.Bodies.{begun-sound}
 use Rattle.em_body.proofs.run.BodyRunWork.begin.Goals as goal
 
