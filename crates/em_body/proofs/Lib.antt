@@ -1,0 +1,16 @@
+pub mod ValuesOf
+pub mod AsksOf
+pub mod Carried
+pub mod Rows
+pub mod NestedBlocks
+pub mod Bodies
+pub mod Readings
+pub mod Remaining
+pub mod AnswersRead
+pub mod Reaching
+pub mod Bare
+pub mod Measures
+pub mod Bounds
+pub mod SilentMoves
+pub mod LeadsRead
+pub mod ExampleGraph

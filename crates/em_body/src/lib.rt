@@ -1,0 +1,40 @@
+//! Bodies: what a script's statements do, one ask at a time.
+#![tactic(auto)]
+
+mod asks;
+mod environment;
+pub mod run;
+mod stack;
+mod values;
+
+ghost use Rattle.em_body.specs.Followed.{BodiesAreFollowed, ContextsAreBounded, EndsWhereNothingIsLeft, LeadsAreRead, SilentWhereNothingIsAsked};
+
+pub use run::BodyRun;
+
+/// A body is followed: in each state that a context reaches, the asks with the entries that their answers are read from
+/// are the pairs of the reading of its body, and the body goes on from there as what is left of it.
+pub fn bodies_are_followed()
+    ensures { BodiesAreFollowed }
+{}
+
+/// A body ends exactly where nothing is left of it.
+pub fn ends_where_nothing_is_left()
+    ensures { EndsWhereNothingIsLeft }
+{}
+
+/// A silent move carries out one statement, which asks nothing.
+pub fn silent_where_nothing_is_asked()
+    ensures { SilentWhereNothingIsAsked }
+{}
+
+/// In each context of a well-formed graph the costs of the asks add up to at most 256, and at most 65,536 statements
+/// are carried out.
+pub fn contexts_are_bounded()
+    ensures { ContextsAreBounded }
+{}
+
+/// The entry that an ask gives in a history is one that its answer is read from, so that what is said of a body and its
+/// answers holds along the entries of a history.
+pub fn leads_are_read()
+    ensures { LeadsAreRead }
+{}
