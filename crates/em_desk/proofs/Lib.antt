@@ -1,10 +1,6 @@
 pub mod Newest
-pub mod Found
 pub mod FirstFree
-pub mod Free
-pub mod Without
-pub mod Keeping
-pub mod Fields
-pub mod Ready
-pub mod Taking
-pub mod Row
+pub mod Plain
+pub mod Graphs
+pub mod Alike
+pub mod Spendings

@@ -1,5 +1,4 @@
 pub mod Simple
+pub mod Plain
 pub mod State
-pub mod Search
-pub mod Stands
-pub mod OneEvent
+pub mod Parts

@@ -1,11 +1,4 @@
-//! The desk: the one value that a run's history grows in, by whole asks.
+//! The desk of a run.
 #![tactic(auto)]
 
 pub mod desk;
-mod mint;
-mod room;
-mod search;
-#[cfg(test)]
-mod tests;
-
-pub use desk::Desk;

@@ -1,0 +1,10 @@
+pub mod Steps
+pub mod Handles
+pub mod Places
+pub mod Codes
+pub mod Older
+pub mod State
+pub mod Stands
+pub mod Changes
+pub mod Free
+pub mod Whole

@@ -1,0 +1,12 @@
+//! The events of a run: their handles, who holds them, and where each one is.
+#![tactic(auto)]
+
+mod free;
+mod older;
+pub mod place;
+pub mod pools;
+pub mod slot;
+
+pub use place::{Place, Spend, Spent};
+pub use pools::Pools;
+pub use slot::Slot;
