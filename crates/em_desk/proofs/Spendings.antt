@@ -26,6 +26,7 @@ use Rattle.em_desk.specs.Simple.{IsSimple}
 use Rattle.em_desk.specs.Plain.{IsPlain, ArePlain}
 use Rattle.em_desk.specs.Parts.{pool_steps, pool_after, taken_steps, minted_steps, sending}
 use Rattle.em_desk.proofs.Plain.{by_plain}
+use Rattle.em_desk.proofs.FirstFree.{find-same}
 use Rattle.em_desk.proofs.Graphs.{not-output}
 use Rattle.em_desk.proofs.Alike.{same-minting, same-last, same-held}
 
@@ -128,3 +129,60 @@ same-rule k l past c w all p =
     by_minting None alike = refl
     by_minting (Some m) (Neither none none') = rw (none, none') refl
     by_minting (Some m) (Both q e is is' f g h) = rw (is, is') (ap Some f)
+
+-- free events
+
+not-free : (k : Declarations) (past : Past) (h q : ℕ) → IsSimple k → logged.is_free (logged.entered_place k past h q) ≡ false
+not-free k past h q s = let e = not-output k q s in rw e (by_taker (logged.taker k past h))
+  where
+    by_taker : (o : Option ℕ) → logged.is_free (option_map_or logged.Taken o (logged.Waiting q)) ≡ false
+    by_taker None = refl
+    by_taker (Some c) = refl
+
+spent-free : (k : Declarations) (past : Past) (h : ℕ) (before : Past) (d : ℕ) (w : What) → IsSimple k → IsSpend w
+    → logged.is_free (logged.place_after k past h before d w) ≡ is_freeing w
+spent-free k past h before d w s (ByFree f is) = rw is refl
+spent-free k past h before d w s (BySend f q is) = rw is (by_test (logged.has_entered k past h q.0))
+  where
+    by_test : (b : Bool) → logged.is_free (if b then logged.entered_place k past h q.0 else logged.Delayed q.0) ≡ false
+    by_test true = not-free k past h q.0 s
+    by_test false = refl
+spent-free k past h before d w s (ByKeep f is) = rw is refl
+spent-free k past h before d w s (ByEnd lost is) = rw is refl
+
+free-alike : (k : Declarations) (past : Past) (h : ℕ) (m : Option log.Minting) (s : Option pool.Spending) (t : Option log.Spending) → IsSimple k
+    → SpentAlike s t → places.is_free (places.place_of m s None) ≡ logged.is_free (logged.place_of k past h m t)
+free-alike k past h None s t simple alike = refl
+free-alike k past h (Some m) s t simple (Neither none none') = rw (none, none') refl
+free-alike k past h (Some m) s t simple (Both p e is is' f g spends) =
+    let free = spent-free k past h e.before e.core e.what simple spends in rw (is, is') (g ∙ sym free)
+
+-- whether an event is free, where none was shifted since its last minting
+pub same-free : (k : Declarations) (l : Limits) (past : Past) (i : ℕ) → IsSimple k → AllAllowed k l past → ArePlain past
+    → places.shift (pool_steps k past) i ≡ None
+    → places.is_free (places.place (pool_steps k past) i) ≡ logged.is_free (logged.place k past i)
+same-free k l past i s all p unshifted =
+    ap (λ o. places.is_free (places.place_by (pool_steps k past) i o)) (same-last k past i p) ∙ by_last (log.last_handle past i)
+  where
+    by_last : (o : Option ℕ) → places.is_free (places.place_by (pool_steps k past) i o) ≡ logged.is_free (logged.place_by k past o)
+    by_last None = refl
+    by_last (Some h) =
+        let m = same-minting k past h p in
+        let alike = same-spending k l past h all p in
+        rw (m, unshifted) (free-alike k past h (log.minting past h) (pool.spending (pool_steps k past) h) (log.spending past h) s alike)
+
+pub same-first-free : (k : Declarations) (l : Limits) (past : Past) (is : List ℕ) → IsSimple k → AllAllowed k l past → ArePlain past
+    → ((i : ℕ) → places.shift (pool_steps k past) i ≡ None)
+    → places.first_free (pool_steps k past) is ≡ logged.first_free k past is
+same-first-free k l past is s all p unshifted =
+    find-same (λ i. places.is_free (places.place (pool_steps k past) i)) (λ i. logged.is_free (logged.place k past i)) is
+    (λ i. same-free k l past i s all p (unshifted i))
+
+pub same-live : (k : Declarations) (l : Limits) (past : Past) (is : List ℕ) → IsSimple k → AllAllowed k l past → ArePlain past
+    → ((i : ℕ) → places.shift (pool_steps k past) i ≡ None)
+    → places.live (pool_steps k past) is ≡ logged.live k past is
+same-live k l past [] s all p unshifted = refl
+same-live k l past (i ∷ is) s all p unshifted =
+    let free = same-free k l past i s all p (unshifted i) in
+    let rest = same-live k l past is s all p unshifted in
+    rw (free, rest) refl
