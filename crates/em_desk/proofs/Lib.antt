@@ -4,3 +4,8 @@ pub mod Plain
 pub mod Graphs
 pub mod Alike
 pub mod Spendings
+pub mod Room
+pub mod Parking
+pub mod Asking
+pub mod Next
+pub mod Silent
