@@ -9,3 +9,7 @@ pub mod Parking
 pub mod Asking
 pub mod Next
 pub mod Silent
+pub mod Owned
+pub mod Distinct
+pub mod Frees
+pub mod Refusing
