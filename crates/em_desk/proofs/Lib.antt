@@ -13,3 +13,5 @@ pub mod Owned
 pub mod Distinct
 pub mod Frees
 pub mod Refusing
+pub mod Parks
+pub mod Sends
