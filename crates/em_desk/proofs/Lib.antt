@@ -4,3 +4,4 @@ pub mod Plain
 pub mod Graphs
 pub mod Alike
 pub mod Spendings
+pub mod Mapped
