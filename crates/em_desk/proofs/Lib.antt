@@ -15,3 +15,4 @@ pub mod Frees
 pub mod Refusing
 pub mod Parks
 pub mod Sends
+pub mod Mapped

@@ -43,13 +43,9 @@ pub fn is_booting(contexts: &[Opening]) -> bool
 pub fn are_closed(contexts: &[Opening]) -> bool
     ensures { result ≡ list_all is_closed contexts.now }
 {
-    for context in contexts {
-        match context {
-            Opening::Closed => {}
-            _ => return false,
-        }
-    }
-    true
+    contexts
+        .iter()
+        .all(|context| matches!(context, Opening::Closed))
 }
 
 /// The answer where no context is open, else that there is nothing to do for now.
