@@ -15,4 +15,5 @@ pub mod Frees
 pub mod Refusing
 pub mod Parks
 pub mod Sends
+pub mod KeptEvents
 pub mod Mapped
