@@ -16,4 +16,5 @@ pub mod Refusing
 pub mod Parks
 pub mod Sends
 pub mod KeptEvents
+pub mod Ends
 pub mod Mapped
