@@ -17,4 +17,6 @@ pub mod Parks
 pub mod Sends
 pub mod KeptEvents
 pub mod Ends
+pub mod Mints
+pub mod Allocs
 pub mod Mapped
