@@ -1,10 +1,11 @@
 -- What an alloc answers, and what it leaves of what the desk keeps.
-use Rattle.std.proofs.Common.{◌≡◌, ◌≢◌, ℕ, suc, ◌+◌, ◌*◌, ◌^◌, ◌<◌, ◌≤◌, ◌==◌, nat_lt, Bool, true, false, [], ◌∷◌, List, length, take, find, Option, Some, None, is_none, refl, ap, sym, ◌∙◌, subst, arith, IsTrue, unwrap_or, if◌then◌else◌}
+use Rattle.std.proofs.Common.{◌≡◌, ◌≢◌, ℕ, suc, ◌+◌, ◌*◌, ◌^◌, ◌<◌, ◌≤◌, ◌==◌, nat_lt, Bool, true, false, [], ◌∷◌, List, length, take, find, Option, Some, None, Result, Ok, Err, is_none, refl, ap, sym, ◌∙◌, subst, arith, IsTrue, unwrap_or, if◌then◌else◌}
 use Rattle.em_log.specs.declared.ask.Ask.{Ask}
 use Rattle.em_log.specs.declared.declarations.Declarations.{Declarations}
 use Rattle.em_log.specs.declared.entry.Event.{Event}
 use Rattle.em_log.specs.declared.entry.What.{What}
 use Rattle.em_log.specs.declared.fault.Fault.{Fault}
+use Rattle.em_log.specs.declared.ids.Handle.{Handle}
 use Rattle.em_log.specs.declared.ids.Limits.{Limits}
 use Rattle.em_log.specs.declared.ids.PoolId.{PoolId}
 use Rattle.em_log.specs.History.{Past, entry_by, index_of, handle_of}
@@ -17,7 +18,7 @@ use Rattle.em_log.specs.Allowance.{left}
 use Rattle.em_pool.specs.declared.place.Place.{Place}
 use Rattle.em_pool.specs.Steps.{Step, Minted}
 use Rattle.em_pool.specs.Handles as pool
-use Rattle.em_pool.specs.Places.{place, is_free, first_free, live, alloc_refusal, alloc_handle}
+use Rattle.em_pool.specs.Places.{place, is_free, first_free, live, alloc_refusal, alloc_handle, handle_unless}
 use Rattle.em_pool.specs.State.{PoolState}
 use Rattle.em_pool.specs.Stands as pools
 use Rattle.em_desk.specs.declared.opening.Opening.{Opening}
@@ -28,7 +29,7 @@ use Rattle.em_desk.specs.Lines.{LinesState, list_at}
 use Rattle.em_desk.specs.Stands.{Keeps, IsParked, IsWaiting, spares}
 use Rattle.em_desk.proofs.Alike.{same-generation}
 use Rattle.em_desk.proofs.Asking.{may-open}
-use Rattle.em_desk.proofs.Mints.{minted-stays, place-apart, unshifted-minted, last-below, handle-index, pool-within, found-in}
+use Rattle.em_desk.proofs.Mints.{minted-stays, place-apart, unshifted-minted, last-below, handle-index, pool-within, found-in, few-mintings}
 use Rattle.em_desk.proofs.Parking.{waiting-parked, pairs-map, other-minting}
 use Rattle.em_desk.proofs.Spendings.{same-first-free, same-live}
 use Rattle.em_desk.proofs.Next.{IsMild, PartsStand, parts-of, Kept, keeps-next}
@@ -132,3 +133,23 @@ alloc-keeps k l past p p' opens queues objects n c kind a words e s core may ok 
     keeps-next k l past p p' opens queues objects queues objects n c (What.Alloc a e) begun.0 s (mild-alloc a e) core begun.1
     (Asks (Ask.Alloc a kind words) may gives) refl (omega arith) enough spare
     (parts-alloc k past p p' queues objects c first.0 a e (parts-of k l past p opens queues objects n s) f index stands same)
+
+-- an alloc that the pools answer with a handle is not refused
+pub ok-handle : (r : Option Fault) (x : ℕ) (h : Handle) → Ok h ≡ handle_unless r x → (r ≡ None) × (h ≡ record { 0 = x })
+ok-handle None x h is = (refl, cc)
+ok-handle (Some f) x h is = absurd cc
+
+pub err-fault : (r : Option Fault) (x : ℕ) (f : Fault) → Err f ≡ handle_unless r x → r ≡ Some f
+err-fault None x f is = absurd cc
+err-fault (Some g) x f is = cc
+
+-- few enough handles were minted for one more
+pub can-mint : (k : Declarations) (l : Limits) (past : Past) (p : PoolState) (opens : List Opening) (queues objects : LinesState) (n : ℕ)
+    → Keeps k l past p opens queues objects n → p.mintings < 4294967295
+can-mint k l past p opens queues objects n s =
+    let minted = few-mintings k past s.plain in
+    let count = s.pools.count in
+    let short = s.short in
+    let within = s.within in
+    let most = s.limits.most_receives in
+    omega arith
