@@ -19,4 +19,5 @@ pub mod KeptEvents
 pub mod Ends
 pub mod Mints
 pub mod Allocs
+pub mod Claims
 pub mod Mapped
