@@ -1,7 +1,15 @@
+pub mod Mapped
+pub mod Numbers
+pub mod Booted
+pub mod Ready
 pub mod Newest
 pub mod FirstFree
 pub mod Plain
 pub mod Graphs
 pub mod Alike
 pub mod Spendings
-pub mod Mapped
+pub mod Room
+pub mod Parking
+pub mod Asking
+pub mod Next
+pub mod Silent
