@@ -8,8 +8,8 @@ use Rattle.em_log.specs.History.{Past, entry_by, onto}
 use Rattle.em_log.specs.Declarations.{event_total}
 use Rattle.em_log.specs.Handles.{last_handle}
 use Rattle.em_log.specs.Contexts.{context, context_after, ends_boot}
-use Rattle.em_log.specs.Arrivals.{Item}
-use Rattle.em_log.specs.Places.{waiting, taken, taken_after, started_after, kept}
+use Rattle.em_log.specs.Arrivals.{Item, arrivals}
+use Rattle.em_log.specs.Places.{gone, waiting, taken, taken_after, started_after, kept}
 use Rattle.em_log.specs.Tails.{tail}
 use Rattle.em_log.specs.Legal.{Lead, lead_here, leads_after}
 use Rattle.em_log.specs.Lawful.{Lawful, Begins, due}
@@ -44,6 +44,7 @@ pub record PartsStand (k : Declarations) (past : Past) (p : PoolState) (queues o
   pub minted_below : (i h : ℕ) → last_handle past i ≡ Some h → i < event_total k.pools
   pub queue_lists : length queues.lists ≡ length k.queues
   pub queue_room : queues.room ≡ event_total k.pools
+  pub gone_within : (q c : ℕ) → gone k past q c ≤ length (arrivals k past q c)
   pub waits : (q c : ℕ) → q < length k.queues → Pairs (IsWaiting k past q) (waiting k past q c) (list_at queues q)
   pub waiting_once : (q : ℕ) → NoneTwice (list_at queues q)
   pub object_lists : length objects.lists ≡ length k.running
@@ -61,6 +62,7 @@ parts-of k l past p opens queues objects n s =
       minted_below = s.minted_below;
       queue_lists = s.queue_lists;
       queue_room = s.queue_room;
+      gone_within = s.gone_within;
       waits = s.waits;
       waiting_once = s.waiting_once;
       object_lists = s.object_lists;
@@ -106,6 +108,7 @@ keeps-next k l past p p' opens queues objects queues' objects' n c w b s mild co
         minted_below = parts.minted_below;
         queue_lists = parts.queue_lists;
         queue_room = parts.queue_room;
+        gone_within = parts.gone_within;
         waits = parts.waits;
         waiting_once = parts.waiting_once;
         object_lists = parts.object_lists;

@@ -12,8 +12,8 @@ use Rattle.em_log.specs.History.{Past, has, index_of}
 use Rattle.em_log.specs.Declarations.{object_of, event_total}
 use Rattle.em_log.specs.Handles.{Minting, minting, last_handle}
 use Rattle.em_log.specs.Contexts.{context, boot_ended}
-use Rattle.em_log.specs.Arrivals.{Item, item_of}
-use Rattle.em_log.specs.Places.{waiting, taken, started, kept}
+use Rattle.em_log.specs.Arrivals.{Item, item_of, arrivals}
+use Rattle.em_log.specs.Places.{gone, waiting, taken, started, kept}
 use Rattle.em_log.specs.Lawful.{Lawful}
 use Rattle.em_log.specs.Allowance.{left}
 use Rattle.em_pool.specs.declared.place.Place.{Place}
@@ -105,6 +105,7 @@ pub record Keeps (k : Declarations) (l : Limits) (past : Past) (p : PoolState) (
   pub minted_below : (i h : ℕ) → last_handle past i ≡ Some h → i < event_total k.pools
   pub queue_lists : length queues.lists ≡ length k.queues
   pub queue_room : queues.room ≡ event_total k.pools
+  pub gone_within : (q c : ℕ) → gone k past q c ≤ length (arrivals k past q c)
   pub waits : (q c : ℕ) → q < length k.queues → Pairs (IsWaiting k past q) (waiting k past q c) (list_at queues q)
   pub waiting_once : (q : ℕ) → NoneTwice (list_at queues q)
   pub object_lists : length objects.lists ≡ length k.running
