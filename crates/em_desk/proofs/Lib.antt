@@ -5,6 +5,7 @@ pub mod Mintings
 pub mod Spares
 pub mod Taking
 pub mod Taken
+pub mod Reserved
 pub mod Newest
 pub mod FirstFree
 pub mod Plain

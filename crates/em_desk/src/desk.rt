@@ -110,12 +110,13 @@ impl Desk {
         if is_booting(self.contexts.as_slice()) {
             return Ok(told(Answer::Idle));
         }
-        let Some(queue) = self.waiting.filled().map(QueueId) else {
+        let Some(number) = self.waiting.filled() else {
             return Ok(told(rest(self.contexts.as_slice(), Answer::Quiet)));
         };
         if self.started == self.limits.receives {
             return Ok(told(rest(self.contexts.as_slice(), Answer::Limit)));
         }
+        let queue = QueueId(number);
         let object = object_of(&self.declarations, queue);
         let event = start(
             &mut self.log,
