@@ -1,5 +1,214 @@
-use Rattle.em_desk.proofs.Reserved.{stands-take}
+use Rattle.std.proofs.Common.{◌≡◌, ◌∙◌, ℕ, ◌+◌, ◌<◌, ◌≤◌, ◌==◌, Bool, true, false, [], ◌∷◌, List, length, reverse, Some, None, ap, sym, subst, refl, arith, slice_set, if◌then◌else◌}
+use Rattle.std.specs.List.{list_all}
+use Rattle.em_log.specs.declared.ask.Answer.{Answer}
+use Rattle.em_log.specs.declared.ask.Reply.{Reply}
+use Rattle.em_log.specs.declared.entry.Entry.{Entry}
+use Rattle.em_log.specs.declared.entry.Event.{Event}
+use Rattle.em_log.specs.declared.ids.EoId.{EoId}
+use Rattle.em_log.specs.declared.ids.QueueId.{QueueId}
+use Rattle.em_log.specs.History.{Past}
+use Rattle.em_log.specs.Declarations.{object_of}
+use Rattle.em_log.specs.Contexts.{boot_ended}
+use Rattle.em_log.specs.Answers.{Takes, Early, Rests, Receives, RestAnswer, block, context_told, object_id}
+use Rattle.em_desk.specs.declared.opening.Opening.{Opening}
+use Rattle.em_desk.specs.Parts.{pool_steps}
+use Rattle.em_desk.specs.Openings.{opening_at, is_boot, is_closed}
+use Rattle.em_desk.specs.Stands.{Stands}
+use Rattle.em_desk.proofs.Graphs.{no-step}
+use Rattle.em_desk.proofs.Ready.{boot-early, no-choice, none-left, none-waits, rests-quiet, rests-limit, takes-choice}
+use Rattle.em_desk.proofs.Taking.{IsNext, after_take, block-next, told-next, take-is, receive_of, plain-next}
+use Rattle.em_desk.proofs.Reserved.{IsReserved, is-reserved, stands-reserved, plain-reserved, none-owed, takes-in, some-entries, not-first, over-now, stands-boot, next-now, mintings-now, first-now, given-now, history-now, stands-take}
 use Rattle.em_desk.proofs.desk.Desk.take.Goals as goal
+
+pub invariant_of-self-then-self : goal.invariant_of-self-then-self
+invariant_of-self-then-self c =
+    let d = c.self.inside in
+    let log = c.make_room.new.items in
+    let p = c.reserve.new.self in
+    let e = c.in_ok-reserve.ensures in
+    let r = is-reserved d log p c.make_room.ensures.items c.in_ok-make_room.ensures.room e.value e.keeps e.ok e.stands in
+    stands-reserved d log p c.self.invariant r
+
+pub returns-then-self-clause-owed : goal.returns-then-self-clause-owed
+returns-then-self-clause-owed c =
+    let d = c.self.inside in
+    let log = c.make_room.new.items in
+    let p = c.reserve.new.self in
+    let e = c.in_ok-reserve.ensures in
+    let r = is-reserved d log p c.make_room.ensures.items c.in_ok-make_room.ensures.room e.value e.keeps e.ok e.stands in
+    none-owed c.args.self.now (reverse log.items) c.args.core.0 Answer.Halted c.told.result (plain-reserved d log p c.self.invariant r) c.told.ensures
+
+pub invariant_of-self-then-is_empty : goal.invariant_of-self-then-is_empty
+invariant_of-self-then-is_empty c =
+    let d = c.self.inside in
+    let log = c.make_room.new.items in
+    let p = c.reserve.new.self in
+    let e = c.in_ok-reserve.ensures in
+    let r = is-reserved d log p c.make_room.ensures.items c.in_ok-make_room.ensures.room e.value e.keeps e.ok e.stands in
+    stands-boot d log c.push_reserved.new.self p _ c.args.core.0 c.entry.result c.self.invariant r (sym c.is_empty.ensures ∙ c.if-is_empty.true)
+    c.if-core-gt0.false c.entry.ensures c.push_reserved.ensures.items c.push_reserved.ensures.capacity refl
+
+pub invariant_of-self-then-is_booting : goal.invariant_of-self-then-is_booting
+invariant_of-self-then-is_booting c =
+    let d = c.self.inside in
+    let log = c.make_room.new.items in
+    let p = c.reserve.new.self in
+    let e = c.in_ok-reserve.ensures in
+    let r = is-reserved d log p c.make_room.ensures.items c.in_ok-make_room.ensures.room e.value e.keeps e.ok e.stands in
+    stands-reserved d log p c.self.invariant r
+
+pub returns-then-is_booting-clause-takes : goal.returns-then-is_booting-clause-takes
+returns-then-is_booting-clause-takes c =
+    let d = c.self.inside in
+    let s = c.self.invariant in
+    let log = c.make_room.new.items in
+    let past = reverse d.log.items in
+    let some = some-entries d log c.make_room.ensures.items (sym c.is_empty.ensures ∙ c.if-is_empty.false) in
+    let on : is_boot (opening_at d.contexts.items 0) ≡ true =
+      ap (λ (os : List Opening). is_boot (opening_at os 0)) (sym c.as_slice.ensures.value) ∙ (sym c.is_booting.ensures ∙ c.if-is_booting.true) in
+    takes-in d c.args.self.now c.args.core.0 c.told-then-is_booting.result.answer (reverse log.items) c.self.view_is
+    (Early c.if-self.false (not-first c.args.core.0 past some)
+    (boot-early d.declarations d.limits past d.pools d.contexts.items d.waiting d.kept d.started s.keeps on)
+    (ap (λ (r : Reply). r.answer) c.told-then-is_booting.ensures) (ap reverse c.make_room.ensures.items))
+
+pub returns-then-is_booting-clause-owed : goal.returns-then-is_booting-clause-owed
+returns-then-is_booting-clause-owed c =
+    let d = c.self.inside in
+    let log = c.make_room.new.items in
+    let p = c.reserve.new.self in
+    let e = c.in_ok-reserve.ensures in
+    let r = is-reserved d log p c.make_room.ensures.items c.in_ok-make_room.ensures.room e.value e.keeps e.ok e.stands in
+    none-owed c.args.self.now (reverse log.items) c.args.core.0 Answer.Idle c.told-then-is_booting.result (plain-reserved d log p c.self.invariant r)
+    c.told-then-is_booting.ensures
+
+pub invariant_of-self-in_default : goal.invariant_of-self-in_default
+invariant_of-self-in_default c =
+    let d = c.self.inside in
+    let log = c.make_room.new.items in
+    let p = c.reserve.new.self in
+    let e = c.in_ok-reserve.ensures in
+    let r = is-reserved d log p c.make_room.ensures.items c.in_ok-make_room.ensures.room e.value e.keeps e.ok e.stands in
+    stands-reserved d log p c.self.invariant r
+
+pub returns-in_default-clause-takes : goal.returns-in_default-clause-takes
+returns-in_default-clause-takes c =
+    let d = c.self.inside in
+    let s = c.self.invariant in
+    let log = c.make_room.new.items in
+    let past = reverse d.log.items in
+    let some = some-entries d log c.make_room.ensures.items (sym c.is_empty.ensures ∙ c.if-is_empty.false) in
+    let off : is_boot (opening_at d.contexts.items 0) ≡ false =
+      ap (λ (os : List Opening). is_boot (opening_at os 0)) (sym c.as_slice.ensures.value) ∙ (sym c.is_booting.ensures ∙ c.if-is_booting.false) in
+    let over = over-now d s some off in
+    let shown : List Opening → Answer = λ os. if list_all is_closed os then Answer.Quiet else Answer.Idle in
+    let answer : c.told-in_default.result.answer ≡ shown d.contexts.items =
+      ap (λ (r : Reply). r.answer) c.told-in_default.ensures ∙ (c.rest.ensures ∙ ap shown c.as_slice-in_default.ensures.value) in
+    takes-in d c.args.self.now c.args.core.0 c.told-in_default.result.answer (reverse log.items) c.self.view_is
+    (Rests c.if-self.false over (no-step d.declarations past c.args.core.0 s.keeps.plain)
+    (no-choice d.declarations d.limits past c.args.core.0
+    (λ q lt. none-waits d.declarations d.limits past d.pools d.contexts.items d.waiting d.kept d.started c.args.core.0 q s.keeps lt (c.in_default.ensures q)))
+    (subst (RestAnswer d.declarations d.limits past) (sym answer)
+    (rests-quiet d.declarations d.limits past d.pools d.contexts.items d.waiting d.kept d.started s.keeps over c.in_default.ensures))
+    (ap reverse c.make_room.ensures.items))
+
+pub returns-in_default-clause-owed : goal.returns-in_default-clause-owed
+returns-in_default-clause-owed c =
+    let d = c.self.inside in
+    let log = c.make_room.new.items in
+    let p = c.reserve.new.self in
+    let e = c.in_ok-reserve.ensures in
+    let r = is-reserved d log p c.make_room.ensures.items c.in_ok-make_room.ensures.room e.value e.keeps e.ok e.stands in
+    none-owed c.args.self.now (reverse log.items) c.args.core.0 c.rest.result c.told-in_default.result (plain-reserved d log p c.self.invariant r)
+    c.told-in_default.ensures
+
+pub invariant_of-self-then-self-2 : goal.invariant_of-self-then-self-2
+invariant_of-self-then-self-2 c =
+    let d = c.self.inside in
+    let log = c.make_room.new.items in
+    let p = c.reserve.new.self in
+    let e = c.in_ok-reserve.ensures in
+    let r = is-reserved d log p c.make_room.ensures.items c.in_ok-make_room.ensures.room e.value e.keeps e.ok e.stands in
+    stands-reserved d log p c.self.invariant r
+
+pub returns-then-self-2-clause-owed : goal.returns-then-self-2-clause-owed
+returns-then-self-2-clause-owed c =
+    let d = c.self.inside in
+    let log = c.make_room.new.items in
+    let p = c.reserve.new.self in
+    let e = c.in_ok-reserve.ensures in
+    let r = is-reserved d log p c.make_room.ensures.items c.in_ok-make_room.ensures.room e.value e.keeps e.ok e.stands in
+    none-owed c.args.self.now (reverse log.items) c.args.core.0 c.rest-then-self-2.result c.told-then-self-2.result
+    (plain-reserved d log p c.self.invariant r) c.told-then-self-2.ensures
+
+pub returns-then-self-2-clause-takes : goal.returns-then-self-2-clause-takes
+returns-then-self-2-clause-takes c =
+    let d = c.self.inside in
+    let s = c.self.invariant in
+    let log = c.make_room.new.items in
+    let past = reverse d.log.items in
+    let some = some-entries d log c.make_room.ensures.items (sym c.is_empty.ensures ∙ c.if-is_empty.false) in
+    let off : is_boot (opening_at d.contexts.items 0) ≡ false =
+      ap (λ (os : List Opening). is_boot (opening_at os 0)) (sym c.as_slice.ensures.value) ∙ (sym c.is_booting.ensures ∙ c.if-is_booting.false) in
+    let over = over-now d s some off in
+    let found = c.in-Some.ensures in
+    let x = next-now d c.args.self.now c.args.core.0 c.in-Some.number s c.self.view_is c.requires.core c.requires.closed over found.0 found.1.0 in
+    let shown : List Opening → Answer = λ os. if list_all is_closed os then Answer.Limit else Answer.Idle in
+    let answer : c.told-then-self-2.result.answer ≡ shown d.contexts.items =
+      ap (λ (r : Reply). r.answer) c.told-then-self-2.ensures ∙ (c.rest-then-self-2.ensures ∙ ap shown c.as_slice-then-self-2.ensures.value) in
+    takes-in d c.args.self.now c.args.core.0 c.told-then-self-2.result.answer (reverse log.items) c.self.view_is
+    (Rests c.if-self.false over (no-step d.declarations past c.args.core.0 s.keeps.plain)
+    (none-left d.declarations d.limits past d.pools d.contexts.items d.waiting d.kept d.started c.args.core.0 s.keeps c.if-self-2.true)
+    (subst (RestAnswer d.declarations d.limits past) (sym answer)
+    (rests-limit d.declarations d.limits past d.pools d.contexts.items d.waiting d.kept d.started c.args.core.0 c.in-Some.number s.keeps c.if-self-2.true x.may))
+    (ap reverse c.make_room.ensures.items))
+
+pub start-event-requires-clause-mintings : goal.start-event-requires-clause-mintings
+start-event-requires-clause-mintings c =
+    let d = c.self.inside in
+    let log = c.make_room.new.items in
+    let p = c.reserve.new.self in
+    let e = c.in_ok-reserve.ensures in
+    let r = is-reserved d log p c.make_room.ensures.items c.in_ok-make_room.ensures.room e.value e.keeps e.ok e.stands in
+    mintings-now d log p c.self.invariant r
+
+pub start-event-requires-clause-first : goal.start-event-requires-clause-first
+start-event-requires-clause-first c =
+    let d = c.self.inside in
+    let s = c.self.invariant in
+    let log = c.make_room.new.items in
+    let p = c.reserve.new.self in
+    let e = c.in_ok-reserve.ensures in
+    let r = is-reserved d log p c.make_room.ensures.items c.in_ok-make_room.ensures.room e.value e.keeps e.ok e.stands in
+    let some = some-entries d log c.make_room.ensures.items (sym c.is_empty.ensures ∙ c.if-is_empty.false) in
+    let off : is_boot (opening_at d.contexts.items 0) ≡ false =
+      ap (λ (os : List Opening). is_boot (opening_at os 0)) (sym c.as_slice.ensures.value) ∙ (sym c.is_booting.ensures ∙ c.if-is_booting.false) in
+    let found = c.in-Some.ensures in
+    let x = next-now d c.args.self.now c.args.core.0 c.in-Some.number s c.self.view_is c.requires.core c.requires.closed (over-now d s some off) found.0 found.1.0 in
+    first-now d log p c.args.core.0 c.in-Some.number s r found.0 x
+
+pub invariant_of-self-2 : goal.invariant_of-self-2
+invariant_of-self-2 c =
+    let d = c.self.inside in
+    let s = c.self.invariant in
+    let past = reverse d.log.items in
+    let log = c.make_room.new.items in
+    let p = c.reserve.new.self in
+    let e = c.in_ok-reserve.ensures in
+    let r = is-reserved d log p c.make_room.ensures.items c.in_ok-make_room.ensures.room e.value e.keeps e.ok e.stands in
+    let some = some-entries d log c.make_room.ensures.items (sym c.is_empty.ensures ∙ c.if-is_empty.false) in
+    let off : is_boot (opening_at d.contexts.items 0) ≡ false =
+      ap (λ (os : List Opening). is_boot (opening_at os 0)) (sym c.as_slice.ensures.value) ∙ (sym c.is_booting.ensures ∙ c.if-is_booting.false) in
+    let found = c.in-Some.ensures in
+    let core = c.args.core.0 in
+    let q : QueueId = record { 0 = c.in-Some.number } in
+    let x = next-now d c.args.self.now core q.0 s c.self.view_is c.requires.core c.requires.closed (over-now d s some off) found.0 found.1.0 in
+    let given = given-now d log p core q.0 c.start-event.result s r x c.start-event.ensures.event in
+    let set = ap (λ n. slice_set d.contexts.items n (Opening.Receive c.object_of-object.result)) c.from.ensures
+      ∙ ap (λ (o : EoId). slice_set d.contexts.items core (Opening.Receive o)) c.object_of-object.ensures in
+    stands-take d log c.start-event.new.log p c.start-event.new.pools c.start-event.new.waiting _ core q c.start-event.result s r x c.if-self-2.false given
+    (c.start-event.ensures.stands (pool_steps d.declarations past) x.index x.more (r.stands (pool_steps d.declarations past) s.keeps.pools) x.is)
+    c.start-event.ensures.shapes c.start-event.ensures.spent c.start-event.ensures.lists c.start-event.ensures.line_room c.start-event.ensures.log
+    c.start-event.ensures.capacity set
 
 -- HOLES
 pub reserve-requires : goal.reserve-requires
