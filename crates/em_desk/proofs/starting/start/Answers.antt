@@ -36,10 +36,3 @@ returns-clause-stands c = λ s i is stands at.
         subst (λ p. Stands p (Minted c.args.core.0 c.match-take.event ∷ Shifted i (Place.Taken c.args.core) ∷ s)) (sym w.pools-is) there
     | in-None w ↦ let none = w.in-None.ensures.first in absurd (cc)
     ]
-
--- HOLES
-pub shift-requires-clause-stub : goal.shift-requires-clause-stub
-shift-requires-clause-stub c = ?
-
-pub mint-event-requires-clause-stub : goal.mint-event-requires-clause-stub
-mint-event-requires-clause-stub c = ?

@@ -4,13 +4,15 @@ use Rattle.em_log.specs.declared.ask.Answer.{Answer}
 use Rattle.em_log.specs.declared.ask.Reply.{Reply}
 use Rattle.em_log.specs.declared.entry.Entry.{Entry}
 use Rattle.em_log.specs.declared.entry.Event.{Event}
+use Rattle.em_log.specs.declared.entry.What.{What}
 use Rattle.em_log.specs.declared.ids.EoId.{EoId}
 use Rattle.em_log.specs.declared.ids.QueueId.{QueueId}
-use Rattle.em_log.specs.History.{Past}
+use Rattle.em_log.specs.History.{Past, entry_by}
 use Rattle.em_log.specs.Declarations.{object_of}
 use Rattle.em_log.specs.Contexts.{boot_ended}
 use Rattle.em_log.specs.Answers.{Takes, Early, Rests, Receives, RestAnswer, block, context_told, object_id}
 use Rattle.em_desk.specs.declared.opening.Opening.{Opening}
+use Rattle.em_desk.specs.Plain.{ArePlain}
 use Rattle.em_desk.specs.Parts.{pool_steps}
 use Rattle.em_desk.specs.Openings.{opening_at, is_boot, is_closed}
 use Rattle.em_desk.specs.Stands.{Stands}
@@ -210,6 +212,46 @@ invariant_of-self-2 c =
     c.start-event.ensures.shapes c.start-event.ensures.spent c.start-event.ensures.lists c.start-event.ensures.line_room c.start-event.ensures.log
     c.start-event.ensures.capacity set
 
--- HOLES
-pub reserve-requires : goal.reserve-requires
-reserve-requires c = ?
+pub returns-clause-takes : goal.returns-clause-takes
+returns-clause-takes c =
+    let d = c.self.inside in
+    let s = c.self.invariant in
+    let k = d.declarations in
+    let past = reverse d.log.items in
+    let log = c.make_room.new.items in
+    let p = c.reserve.new.self in
+    let e = c.in_ok-reserve.ensures in
+    let r = is-reserved d log p c.make_room.ensures.items c.in_ok-make_room.ensures.room e.value e.keeps e.ok e.stands in
+    let some = some-entries d log c.make_room.ensures.items (sym c.is_empty.ensures ∙ c.if-is_empty.false) in
+    let off : is_boot (opening_at d.contexts.items 0) ≡ false =
+      ap (λ (os : List Opening). is_boot (opening_at os 0)) (sym c.as_slice.ensures.value) ∙ (sym c.is_booting.ensures ∙ c.if-is_booting.false) in
+    let over = over-now d s some off in
+    let found = c.in-Some.ensures in
+    let core = c.args.core.0 in
+    let q : QueueId = record { 0 = c.in-Some.number } in
+    let event = c.start-event.result in
+    let x = next-now d c.args.self.now core q.0 s c.self.view_is c.requires.core c.requires.closed over found.0 found.1.0 in
+    let given = given-now d log p core q.0 event s r x c.start-event.ensures.event in
+    let history = history-now d log c.start-event.new.log core q event c.make_room.ensures.items c.start-event.ensures.log in
+    let within = s.keeps.within in
+    let more : d.started < d.limits.receives = (let differs = c.if-self-2.false in omega arith) in
+    let now = history ∙ (ap (after_take past core q) given ∙ (sym (block-next k past d.waiting core q x)
+      ∙ ap (λ (w : What). block k past (entry_by core w)) (sym (take-is k d.limits past core q s.keeps.simple s.keeps.plain x.may.core x.may.queue)))) in
+    let told = subst (λ (h : Past). context_told k h core ≡ Some (receive_of q (object_id (object_of k q.0)) event)) (sym history)
+      (told-next k past core q event s.keeps.simple s.keeps.plain x.may) in
+    let answer : c.told-2.result.answer ≡ Answer.Context (receive_of q (object_id (object_of k q.0)) event) =
+      ap (λ (r : Reply). r.answer) c.told-2.ensures
+      ∙ (c.received.ensures ∙ ap (λ (o : EoId). Answer.Context (receive_of q o event)) c.object_of-object.ensures) in
+    takes-in d c.args.self.now core c.told-2.result.answer (reverse c.start-event.new.log.items) c.self.view_is
+    (Receives q.0 (receive_of q (object_id (object_of k q.0)) event) c.if-self.false over (no-step k past core s.keeps.plain)
+    (takes-choice k d.limits past d.pools d.contexts.items d.waiting d.kept d.started core q.0 s.keeps more x.may) now told answer)
+
+pub returns-clause-owed : goal.returns-clause-owed
+returns-clause-owed c =
+    let d = c.self.inside in
+    let core = c.args.core.0 in
+    let q : QueueId = record { 0 = c.in-Some.number } in
+    let event = c.start-event.result in
+    let history = history-now d c.make_room.new.items c.start-event.new.log core q event c.make_room.ensures.items c.start-event.ensures.log in
+    none-owed c.args.self.now (reverse c.start-event.new.log.items) core c.received.result c.told-2.result
+    (subst ArePlain (sym history) (plain-next (reverse d.log.items) core q event c.self.invariant.keeps.plain)) c.told-2.ensures
