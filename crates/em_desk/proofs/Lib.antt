@@ -12,7 +12,6 @@ pub mod Plain
 pub mod Graphs
 pub mod Alike
 pub mod Spendings
-pub mod Mapped
 pub mod Room
 pub mod Parking
 pub mod Asking
@@ -24,3 +23,8 @@ pub mod Frees
 pub mod Refusing
 pub mod Parks
 pub mod Sends
+pub mod KeptEvents
+pub mod Ends
+pub mod Mints
+pub mod Allocs
+pub mod Mapped

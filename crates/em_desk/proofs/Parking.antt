@@ -39,7 +39,7 @@ or-none None = refl
 or-none (Some x) = refl
 
 -- what stands for a handle that a minting is not of
-other-minting : (h c : ℕ) (e : Event) (was : Option log.Minting) → index_of e.handle.0 ≢ index_of h
+pub other-minting : (h c : ℕ) (e : Event) (was : Option log.Minting) → index_of e.handle.0 ≢ index_of h
     → log.minting_by h c (Some e) was ≡ was
 other-minting h c e was other = let t = other-test e.handle.0 h (λ (is : e.handle.0 ≡ h). other (ap index_of is)) in rw t refl
 

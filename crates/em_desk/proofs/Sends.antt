@@ -145,8 +145,24 @@ send-own k past c h q plain =
     let none = no-ticket past c plain in
     ap (λ (t : Option Ticket). What.Send (record { 0 = h }) q (option_map (λ (t : Ticket). t.number) t) None) (sym none)
 
-send-alone : (k : Declarations) (past : Past) (c h : ℕ) (q : QueueId) → IsSimple k → tail k past (entry_by c (send_of h q)) ≡ []
+pub send-alone : (k : Declarations) (past : Past) (c h : ℕ) (q : QueueId) → IsSimple k → tail k past (entry_by c (send_of h q)) ≡ []
 send-alone k past c h q simple = let e = not-output k q.0 simple in rw e refl
+
+queue-named : (k : Declarations) (q : ℕ) → IsTrue (nat_lt q (length k.queues) && true) → q < length k.queues
+queue-named k q h = ltb-true q (length k.queues) (by_test (nat_lt q (length k.queues)) h)
+  where
+    by_test : (b : Bool) → IsTrue (b && true) → b ≡ true
+    by_test true h = refl
+    by_test false h = absurd cc
+
+-- the queue of a send has room for its event
+pub send-room : (k : Declarations) (l : Limits) (past : Past) (p : PoolState) (opens : List Opening) (queues objects : LinesState) (n c h : ℕ) (q : QueueId)
+    → Keeps k l past p opens queues objects n → IsTrue (may_ask k past c (Ask.Send h q None)) → log.rule past c h ≡ None
+    → length (list_at queues q.0) < queues.room
+send-room k l past p opens queues objects n c h q s may ok =
+    let parts = parts-of k l past p opens queues objects n s in
+    queue-room k past p queues objects c h q.0 parts (owned k l past p queues objects c h parts s.lawful.each s.plain ok)
+    (queue-named k q.0 (may-declared k past c (Ask.Send h q None) may))
 
 pub send-keeps : (k : Declarations) (l : Limits) (past : Past) (p p' : PoolState) (opens : List Opening) (queues objects queues' : LinesState) (n c h : ℕ) (q : QueueId)
     → Keeps k l past p opens queues objects n → c < k.cores → IsTrue (may_ask k past c (Ask.Send h q None)) → log.rule past c h ≡ None → 2 ≤ left k past c
@@ -156,16 +172,9 @@ pub send-keeps : (k : Declarations) (l : Limits) (past : Past) (p p' : PoolState
 send-keeps k l past p p' opens queues objects queues' n c h q s core may ok enough stands same spare lists len room =
     let begun = may-open k past c (Ask.Send h q None) may in
     let parts = parts-of k l past p opens queues objects n s in
-    let declared : q.0 < length k.queues = ltb-true q.0 (length k.queues) (queue-named (may-declared k past c (Ask.Send h q None) may)) in
+    let declared = queue-named k q.0 (may-declared k past c (Ask.Send h q None) may) in
     let gives : send_of h q ≡ lead k past c (Ask.Send h q None) =
     send-own k past c h q s.plain ∙ own-lead k past c (Ask.Send h q None) (send-refusal k past c h q s.simple s.plain ∙ ok) in
     keeps-next k l past p p' opens queues objects queues' objects n c (send_of h q) begun.0 s (mild-send h q) core begun.1
     (Asks (Ask.Send h q None) may gives) (send-alone k past c h q s.simple) (omega arith) enough (omega arith)
     (parts-send k past p p' queues objects queues' c h q s.simple parts (owned k l past p queues objects c h parts s.lawful.each s.plain ok) declared stands same lists len room)
-  where
-    queue-named : IsTrue (nat_lt q.0 (length k.queues) && true) → nat_lt q.0 (length k.queues) ≡ true
-    queue-named h = by_test (nat_lt q.0 (length k.queues)) h
-      where
-        by_test : (b : Bool) → IsTrue (b && true) → b ≡ true
-        by_test true h = refl
-        by_test false h = absurd cc

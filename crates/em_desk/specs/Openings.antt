@@ -18,3 +18,8 @@ is_boot _ = false
 abbrev pub object_in : Opening → Option EoId
 object_in (Opening.Receive x) = Some x
 object_in _ = None
+
+-- the object whose receive is open, as a number that is always there
+abbrev pub receiver_in : Opening → EoId
+receiver_in (Opening.Receive x) = x
+receiver_in _ = record { 0 = 0 }

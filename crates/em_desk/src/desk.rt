@@ -14,7 +14,7 @@ ghost use Rattle.em_desk.specs.State.{DeskState, IsServed, IsSameRun, IsAnswered
 
 use crate::entries::{entry, make_room, received, told};
 use crate::lines::Lines;
-use crate::opening::{Opening, are_closed, closed, is_booting, object_in, rest};
+use crate::opening::{Opening, are_closed, closed, is_booting, object_in, receiver, rest};
 use crate::shapes::{event_count, index_of, object_of};
 use crate::starting::start;
 use em_log::{
@@ -244,7 +244,7 @@ impl Desk {
             return self.refuse(core, Call::Keep, fault);
         }
         let place = self.log.len() as u64;
-        let object = object_in(self.contexts.as_slice(), core).unwrap_or_default();
+        let object = receiver(self.contexts.as_slice(), core);
         self.pools.spend(core, word, Spend::Kept(object), place);
         self.kept.add(u16::from(object.0), index_of(word));
         self.log.push_reserved(entry(core, What::Keep(Handle(word))));
@@ -258,7 +258,7 @@ impl Desk {
         requires allowance { 1 ≤ left self.old.declarations self.old.past core.0 }
         ensures { IsAnswered self.old self.new core.0 (lead self.old.declarations self.old.past core.0 TheAsk.Claim) result }
     {
-        let object = object_in(self.contexts.as_slice(), core).unwrap_or_default();
+        let object = receiver(self.contexts.as_slice(), core);
         let Some(index) = self.kept.take(u16::from(object.0)) else {
             self.log.push_reserved(entry(core, What::Claim(None)));
             return told(Answer::Nothing);

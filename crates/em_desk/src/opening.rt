@@ -1,7 +1,7 @@
 //! What the desk keeps of each core's open context.
 ghost use Rattle.std.specs.Prelude.{◌≡◌, replicate, if◌then◌else◌, IfOk};
 ghost use Rattle.std.specs.List.{list_all};
-ghost use Rattle.em_desk.specs.Openings.{opening_at, is_closed, is_boot, object_in as object_of_opening};
+ghost use Rattle.em_desk.specs.Openings.{opening_at, is_closed, is_boot, object_in as object_of_opening, receiver_in};
 ghost use Rattle.em_desk.specs.declared.opening.Opening.{Opening as TheOpening};
 ghost use Rattle.em_log.specs.declared.ask.Answer.{Answer as TheAnswer};
 
@@ -66,5 +66,15 @@ pub fn object_in(contexts: &[Opening], core: CoreId) -> Option<EoId>
     match contexts.get(usize::from(core.0)) {
         Some(Opening::Receive(object)) => Some(*object),
         _ => None,
+    }
+}
+
+/// The object whose receive is the core's open context; where none is, object 0.
+pub fn receiver(contexts: &[Opening], core: CoreId) -> EoId
+    ensures { result ≡ receiver_in (opening_at contexts.now core.0) }
+{
+    match contexts.get(usize::from(core.0)) {
+        Some(Opening::Receive(object)) => *object,
+        _ => EoId(0),
     }
 }
