@@ -34,7 +34,7 @@ use Rattle.em_desk.specs.Stands.{state_of, Stands, Keeps, spares}
 use Rattle.em_desk.proofs.Graphs.{no-step}
 use Rattle.em_desk.proofs.Mapped.{none-long}
 use Rattle.em_desk.proofs.Newest.{appended}
-use Rattle.em_desk.proofs.Mintings.{few-mintings}
+use Rattle.em_desk.proofs.Mints.{few-mintings}
 use Rattle.em_desk.proofs.Spares.{spares-most}
 use Rattle.em_desk.proofs.Ready.{boot-over}
 use Rattle.em_desk.proofs.Taking.{took, started_with, after_take, IsNext, is-next, item-is, last-known, minted-again}

@@ -94,7 +94,7 @@ opening-set k past now c d o os lt new same before = by_test (eqb_tells c d)
 
 -- boot
 
-all-closed : (k : Declarations) (past : Past) (a : ℕ) (os : List Opening) → ((i : ℕ) → i < length os → opening_at os i ≡ Opening.Closed)
+pub all-closed : (k : Declarations) (past : Past) (a : ℕ) (os : List Opening) → ((i : ℕ) → i < length os → opening_at os i ≡ Opening.Closed)
     → spares k past a os ≡ 0
 all-closed k past a [] closed = refl
 all-closed k past a (o ∷ os) closed =
