@@ -27,4 +27,5 @@ pub mod KeptEvents
 pub mod Ends
 pub mod Mints
 pub mod Allocs
+pub mod Claims
 pub mod Mapped

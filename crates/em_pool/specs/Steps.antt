@@ -1,7 +1,7 @@
 -- The steps of the pools: what a run does to its events, the newest step first.
-use Rattle.std.specs.Prelude.{ℕ, suc, ◌==◌, Bool, true, false, List, [], ◌∷◌, ◌++◌, Option, Some, None, if◌then◌else◌}
+use Rattle.std.specs.Prelude.{ℕ, suc, ◌==◌, List, [], ◌∷◌, ◌++◌, Option, Some, None, if◌then◌else◌}
 use Rattle.em_log.specs.declared.entry.Event.{Event}
-use Rattle.em_log.specs.History.{has, without}
+use Rattle.em_log.specs.History.{without}
 use Rattle.em_pool.specs.declared.place.Place.{Place}
 use Rattle.em_pool.specs.declared.place.Spend.{Spend}
 

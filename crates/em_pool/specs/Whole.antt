@@ -1,25 +1,21 @@
--- What the fields of the pools mean, and what is true of them.
+-- What is true of the fields of the pools.
 use Rattle.std.specs.Prelude.{ℕ, ◌≡◌, ◌≤◌, Bool, List, length, map, slice_index_or}
+use Rattle.em_log.specs.declared.declarations.PoolShape.{PoolShape}
 use Rattle.em_log.specs.Declarations.{event_total}
 use Rattle.em_pool.specs.declared.slot.Slot.{Slot}
 use Rattle.em_pool.specs.Places.{is_free}
-use Rattle.em_pool.specs.State.{PoolState, fresh}
-use Rattle.em_pool.specs.declared.pools.Pools.TheInside.{Inside}
-
-abbrev pub pool_state : Inside → PoolState
-pool_state a =
-    record { pools = a.pools; slots = a.slots.items; older = a.older.spent; mintings = a.mintings; spare = a.spare }
+use Rattle.em_pool.specs.State.{fresh}
 
 abbrev pub is_free_slot : Slot → Bool
 is_free_slot s = is_free s.place
 
-pub record IsWhole (a : Inside) : Type 0 where
+pub record IsWhole (pools : List PoolShape) (slots : List Slot) (free : List Bool) (mintings spare room : ℕ) : Type 0 where
   -- each event of each pool is kept
-  pub events : length a.slots.items ≡ event_total a.pools
-  pub few : event_total a.pools ≤ 4096
+  pub events : length slots ≡ event_total pools
+  pub few : event_total pools ≤ 4096
   -- the set of free indices is that of the events that are free
-  pub free : a.free ≡ map is_free_slot a.slots.items
+  pub free_is : free ≡ map is_free_slot slots
   -- no index has more mintings than all
-  pub generations : (i : ℕ) → (slice_index_or a.slots.items i fresh).generation ≤ a.mintings
+  pub generations : (i : ℕ) → (slice_index_or slots i fresh).generation ≤ mintings
   -- what is told as spare is there
-  pub room : a.spare ≤ a.older.room
+  pub enough : spare ≤ room

@@ -1,10 +1,12 @@
 //! The events of a run: their handles, who holds them, and where each one is.
 #![tactic(auto)]
 
+mod bits;
 mod free;
 mod older;
 pub mod place;
 pub mod pools;
+mod shapes;
 pub mod slot;
 
 pub use place::{Place, Spend, Spent};

@@ -1,5 +1,9 @@
 //! Where an event is, and where it goes when its handle is spent.
 
+ghost use Rattle.std.specs.Prelude.{◌≡◌};
+ghost use Rattle.em_pool.specs.Handles.{place_of_spend};
+ghost use Rattle.em_pool.specs.Places.{is_free as is_free_place};
+
 use em_log::{CoreId, EoId, QueueId};
 
 /// The place of an event.
@@ -45,4 +49,23 @@ pub struct Spent {
     pub freed: bool,
     /// The place in the history of the entry that spent it.
     pub place: u64,
+}
+
+/// Where the event of a spent handle goes.
+pub fn place_after(how: Spend) -> Place
+    ensures { result ≡ place_of_spend how }
+{
+    match how {
+        Spend::Sent(queue) => Place::Waiting(queue),
+        Spend::Delayed(queue) => Place::Delayed(queue),
+        Spend::Freed => Place::Free,
+        Spend::Kept(object) => Place::Kept(object),
+        Spend::Noted => Place::Noted,
+    }
+}
+
+pub fn is_free(place: Place) -> bool
+    ensures { result ≡ is_free_place place }
+{
+    matches!(place, Place::Free)
 }

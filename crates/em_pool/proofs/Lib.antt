@@ -1,0 +1,15 @@
+pub mod OlderLemmas
+pub mod BitLemmas
+pub mod FreeLemmas
+pub mod ListLemmas
+pub mod Numbers
+pub mod Reading
+pub mod Slots
+pub mod Spending
+pub mod WholeLemmas
+pub mod Shifting
+pub mod Minting
+pub mod Losing
+pub mod FirstFree
+pub mod Opening
+pub mod Allocating
