@@ -156,9 +156,11 @@ takes-choice k l past p opens queues objects n c q s more m =
   where
     both : (a b : Bool) → a ≡ true → b ≡ true → (a && b) ≡ true
     both a b ia ib = rw (ia, ib) refl
+
     or-last : (b : Bool) → (b || true) ≡ true
     or-last true = refl
     or-last false = refl
+
     best : (r : ℕ) → IsServable k past c r → (not (eligible k l past c r) || nat_le (rank_of k r) (rank_of k q)) ≡ true
     best r v =
         let mine = (servable k past c q s.simple s.plain m.core m.queue).rank in
@@ -198,10 +200,10 @@ pub idle-is : (k : Declarations) (l : Limits) (past : Past) (p : PoolState) (ope
 idle-is k l past p opens queues objects n s over all =
     both (boot_ended past) _ (all_done past) over
     (all-below (is_between k past) k.cores (λ c lt.
-        let cores = s.cores in
-        let none = closed-none k past c (opening_at opens c) (s.contexts c lt) (all-at is_closed opens c Opening.Closed all (omega arith)) in
-        let untaken = s.untaken c in
-        rw (over, none, untaken) refl))
+    let cores = s.cores in
+    let none = closed-none k past c (opening_at opens c) (s.contexts c lt) (all-at is_closed opens c Opening.Closed all (omega arith)) in
+    let untaken = s.untaken c in
+    rw (over, none, untaken) refl))
     (all-done-now past s.plain)
   where
     both : (a b c : Bool) → a ≡ true → b ≡ true → c ≡ true → (a && b && c) ≡ true
@@ -222,6 +224,7 @@ busy-is k l past p opens queues objects n s off =
     middle : (a b c : Bool) → b ≡ false → (a && b && c) ≡ false
     middle true b c is = rw is refl
     middle false b c is = refl
+
     between-off : (a b c : Bool) → b ≡ false → (a && b && c) ≡ false
     between-off true b c is = rw is refl
     between-off false b c is = refl
@@ -241,17 +244,31 @@ some-first : (xs : List ℕ) → 0 < length xs → (i : ℕ) × ((is : List ℕ)
 some-first [] lt = absurd (omega arith)
 some-first (x ∷ xs) lt = (x, (xs, refl))
 
+-- the core may take from the queue, and the event of this index is the first that waits there
+pub record IsNext (k : Declarations) (past : Past) (queues : LinesState) (c q : ℕ) : Type 0 where
+  pub may : MayTake k past c q
+  pub index : ℕ
+  pub more : List ℕ
+  pub is : list_at queues q ≡ index ∷ more
+  pub stands : IsWaiting k past q may.item index
+
 -- a core between contexts may take from a queue in whose list something stands
-pub may-take : (k : Declarations) (l : Limits) (past : Past) (p : PoolState) (opens : List Opening) (queues objects : LinesState) (n c q : ℕ)
+pub is-next : (k : Declarations) (l : Limits) (past : Past) (p : PoolState) (opens : List Opening) (queues objects : LinesState) (n c q : ℕ)
     → Keeps k l past p opens queues objects n → c < k.cores → boot_ended past ≡ true → context past c ≡ None
-    → q < length queues.lists → 0 < length (list_at queues q) → MayTake k past c q
-may-take k l past p opens queues objects n c q s core over none lt some =
+    → q < length queues.lists → 0 < length (list_at queues q) → IsNext k past queues c q
+is-next k l past p opens queues objects n c q s core over none lt some =
     let lists = s.queue_lists in
     let declared : q < length k.queues = omega arith in
     let f = some-first (list_at queues q) some in
     let pair = first-pair (IsWaiting k past q) (waiting k past q c) f.0 f.1.0
-      (subst (λ is. Pairs (IsWaiting k past q) (waiting k past q c) is) f.1.1 (s.waits q c declared)) in
-    record { core = core; queue = declared; over = over; closed = none; item = pair.item; rest = pair.rest; waits = pair.is }
+    (subst (λ is. Pairs (IsWaiting k past q) (waiting k past q c) is) f.1.1 (s.waits q c declared)) in
+    record {
+      may = record { core = core; queue = declared; over = over; closed = none; item = pair.item; rest = pair.rest; waits = pair.is };
+      index = f.0;
+      more = f.1.0;
+      is = f.1.1;
+      stands = pair.stands;
+    }
 
 -- how it has ended
 
@@ -292,6 +309,7 @@ idles k l past off = (quiet (is_idle k past) (not (is_wanted k past)) off, limit
   where
     quiet : (i w : Bool) → i ≡ false → (i && w) ≡ false
     quiet i w is = rw is refl
+
     limit : (i r w : Bool) → i ≡ false → (i && r && w) ≡ false
     limit i r w is = rw is refl
 

@@ -36,8 +36,8 @@ use Rattle.em_desk.proofs.Mapped.{none-long}
 use Rattle.em_desk.proofs.Newest.{appended}
 use Rattle.em_desk.proofs.Mints.{few-mintings}
 use Rattle.em_desk.proofs.Spares.{spares-most}
-use Rattle.em_desk.proofs.Ready.{boot-over}
-use Rattle.em_desk.proofs.Taking.{took, started_with, after_take, IsNext, is-next, item-is, last-known, minted-again}
+use Rattle.em_desk.proofs.Ready.{boot-over, IsNext, is-next}
+use Rattle.em_desk.proofs.Taking.{took, started_with, after_take, item-is, last-known, minted-again}
 use Rattle.em_desk.proofs.Taken.{reserved-keeps, boot_entry, boot-keeps, take-keeps}
 
 -- the log has room for a take and all that may follow, and the pools for as many handles
@@ -113,12 +113,18 @@ pub not-first : (c : ℕ) (past : Past) → (length past == 0) ≡ false → is_
 not-first c [] some = absurd (false≢true (sym some))
 not-first c (e ∷ past) some = refl
 
--- with no open boot, boot is over
-pub over-now : (d : Inside) → Stands d → (length (reverse d.log.items) == 0) ≡ false → is_boot (opening_at d.contexts.items 0) ≡ false
-    → boot_ended (reverse d.log.items) ≡ true
-over-now d s some off =
+-- what the first core has open, as it was read
+pub boots-by : (d : Inside) (os : List Opening) (booting b : Bool) → os ≡ d.contexts.items → booting ≡ is_boot (opening_at os 0) → booting ≡ b
+    → is_boot (opening_at d.contexts.items 0) ≡ b
+boots-by d os booting b same test told = ap (λ os. is_boot (opening_at os 0)) (sym same) ∙ (sym test ∙ told)
+
+-- with some entry and no open boot, boot is over
+pub is-over : (d : Inside) (log : Vec Entry Global) (os : List Opening) (booting : Bool) → Stands d → log.items ≡ d.log.items → (vec_len log == 0) ≡ false
+    → os ≡ d.contexts.items → booting ≡ is_boot (opening_at os 0) → booting ≡ false → boot_ended (reverse d.log.items) ≡ true
+is-over d log os booting s logged some same test off =
     let least = s.keeps.simple.some_cores in
-    boot-over d.declarations (reverse d.log.items) (opening_at d.contexts.items 0) s.keeps.stage (s.keeps.contexts 0 (omega arith)) off some
+    boot-over d.declarations (reverse d.log.items) (opening_at d.contexts.items 0) s.keeps.stage (s.keeps.contexts 0 (omega arith))
+    (boots-by d os booting false same test off) (some-entries d log logged some)
 
 -- boot
 
@@ -134,11 +140,11 @@ stands-boot d log now p contexts c e s r none first is added same set =
     let after = boot-keeps d.declarations d.limits p d.contexts.items d.waiting d.kept d.started before (omega arith) in
     let entry : e ≡ boot_entry = is ∙ ap (λ n. entry_by n (What.Enter Body.Boot)) zero in
     let history : reverse now.items ≡ boot_entry ∷ [] =
-      appended log.items now.items e added ∙ (ap (λ (x : Entry). x ∷ reverse log.items) entry
-      ∙ ap (λ (h : Past). boot_entry ∷ h) (ap reverse r.items ∙ empty)) in
+    appended log.items now.items e added ∙ (ap (λ (x : Entry). x ∷ reverse log.items) entry
+    ∙ ap (λ (h : Past). boot_entry ∷ h) (ap reverse r.items ∙ empty)) in
     let keeps : Keeps d.declarations d.limits (reverse now.items) p contexts.items d.waiting d.kept d.started =
-      subst (λ (h : Past). Keeps d.declarations d.limits h p contexts.items d.waiting d.kept d.started) (sym history)
-      (subst (λ (os : List Opening). Keeps d.declarations d.limits (boot_entry ∷ []) p os d.waiting d.kept d.started) (sym set) after) in
+    subst (λ (h : Past). Keeps d.declarations d.limits h p contexts.items d.waiting d.kept d.started) (sym history)
+    (subst (λ (os : List Opening). Keeps d.declarations d.limits (boot_entry ∷ []) p os d.waiting d.kept d.started) (sym set) after) in
     let most = most-spares d.declarations (reverse now.items) contexts.items d.declarations.cores keeps.cores s.keeps.simple.most_cores in
     let one : length now.items ≡ 1 = sym (length-reverse now.items) ∙ ap length history in
     let room = r.room in
@@ -216,11 +222,11 @@ stands-take d log now p p' queues contexts c q e s r x more is stands same spent
     let within = s.keeps.within in
     let enough = r.enough in
     let after = take-keeps k d.limits past p p' d.contexts.items d.waiting d.kept queues d.started c q e (kept-reserved d log p s r) x (omega arith) is
-      stands same (omega arith) lists lines in
+    stands same (omega arith) lists lines in
     let history = history-now d log now c q e r.items added in
     let keeps : Keeps k d.limits (reverse now.items) p' contexts.items queues d.kept (d.started + 1) =
-      subst (λ (h : Past). Keeps k d.limits h p' contexts.items queues d.kept (d.started + 1)) (sym history)
-      (subst (λ (os : List Opening). Keeps k d.limits (after_take past c q e) p' os queues d.kept (d.started + 1)) (sym set) after) in
+    subst (λ (h : Past). Keeps k d.limits h p' contexts.items queues d.kept (d.started + 1)) (sym history)
+    (subst (λ (os : List Opening). Keeps k d.limits (after_take past c q e) p' os queues d.kept (d.started + 1)) (sym set) after) in
     let most = most-spares k (reverse now.items) contexts.items k.cores keeps.cores s.keeps.simple.most_cores in
     let long : length now.items ≡ suc (suc (length past)) = sym (length-reverse now.items) ∙ ap length history in
     let before : vec_len log ≡ length past = log.ok.0 ∙ (ap length r.items ∙ sym (length-reverse d.log.items)) in

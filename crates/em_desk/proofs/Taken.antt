@@ -35,8 +35,8 @@ use Rattle.em_desk.proofs.Room.{own-test, other-test, spares-stay}
 use Rattle.em_desk.proofs.Spares.{spares-most, spares-grown, left-begun}
 use Rattle.em_desk.proofs.Parking.{parked-unminted, pairs-map, waiting-parked}
 use Rattle.em_desk.proofs.Next.{PartsStand, parts-of}
-use Rattle.em_desk.proofs.Ready.{MayTake, takes-choice, none-closed}
-use Rattle.em_desk.proofs.Taking.{took, started_with, after_take, IsNext, block-next, take-is, begun-next, plain-next, untaken-next, parts-take}
+use Rattle.em_desk.proofs.Ready.{IsNext, takes-choice, none-closed}
+use Rattle.em_desk.proofs.Taking.{took, started_with, after_take, block-next, take-is, begun-next, plain-next, untaken-next, parts-take}
 
 -- room for more
 

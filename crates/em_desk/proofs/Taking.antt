@@ -43,11 +43,11 @@ use Rattle.em_desk.proofs.Plain.{no-ticket}
 use Rattle.em_desk.proofs.Graphs.{servable, not-local, holds-none, QueueAt, Absent, Present, queue-at}
 use Rattle.em_desk.proofs.Alike.{same-generation, same-minting, same-last}
 use Rattle.em_desk.proofs.Room.{own-test, other-test, spare-other, spares-stay}
-use Rattle.em_desk.proofs.Parking.{place-minted, parked-unminted, parked-minted, pairs-map, waiting-parked}
+use Rattle.em_desk.proofs.Parking.{place-minted, parked-unminted, parked-minted, pairs-map, waiting-parked, other-minting}
 use Rattle.em_desk.proofs.Next.{PartsStand, parts-of}
 use Rattle.em_desk.proofs.Spares.{spares-most, spares-grown, left-begun}
 use Rattle.em_desk.proofs.Distinct.{list-same, list-other}
-use Rattle.em_desk.proofs.Ready.{MayTake, FirstPair, first-pair, takes-choice, none-closed}
+use Rattle.em_desk.proofs.Ready.{MayTake, FirstPair, first-pair, IsNext}
 
 abbrev pub took : ℕ → QueueId → Entry
 took c q = entry_by c (What.Take q 1 None)
@@ -58,35 +58,6 @@ started_with c q e = entry_by c (What.Start q e None)
 -- the history after core c has taken the event e from queue q
 abbrev pub after_take : Past → ℕ → QueueId → Event → Past
 after_take past c q e = started_with c q e ∷ took c q ∷ past
-
--- the core may take from the queue, and the event of this index is the first that waits there
-pub record IsNext (k : Declarations) (past : Past) (queues : LinesState) (c q : ℕ) : Type 0 where
-  pub may : MayTake k past c q
-  pub index : ℕ
-  pub more : List ℕ
-  pub is : list_at queues q ≡ index ∷ more
-  pub stands : IsWaiting k past q may.item index
-
-some-first : (xs : List ℕ) → 0 < length xs → (i : ℕ) × ((is : List ℕ) × (xs ≡ i ∷ is))
-some-first [] lt = absurd (omega arith)
-some-first (x ∷ xs) lt = (x, (xs, refl))
-
-pub is-next : (k : Declarations) (l : Limits) (past : Past) (p : PoolState) (opens : List Opening) (queues objects : LinesState) (n c q : ℕ)
-    → Keeps k l past p opens queues objects n → c < k.cores → boot_ended past ≡ true → context past c ≡ None
-    → q < length queues.lists → 0 < length (list_at queues q) → IsNext k past queues c q
-is-next k l past p opens queues objects n c q s core over none lt some =
-    let lists = s.queue_lists in
-    let declared : q < length k.queues = omega arith in
-    let f = some-first (list_at queues q) some in
-    let pair = first-pair (IsWaiting k past q) (waiting k past q c) f.0 f.1.0
-      (subst (λ is. Pairs (IsWaiting k past q) (waiting k past q c) is) f.1.1 (s.waits q c declared)) in
-    record {
-      may = record { core = core; queue = declared; over = over; closed = none; item = pair.item; rest = pair.rest; waits = pair.is };
-      index = f.0;
-      more = f.1.0;
-      is = f.1.1;
-      stands = pair.stands;
-    }
 
 -- the item, as its minting gave it
 pub record ItemIs (past : Past) (x : Item) : Type 0 where
@@ -320,9 +291,6 @@ keeps-apart k past q r i j h x a b = λ (e : j ≡ i).
     subst (λ n. place (pool_steps k past) n ≡ Place.Kept (record { 0 = r })) e b.place in
     absurd (cc (there, a.parked.place))
 
-other-minting : (h c : ℕ) (e : Event) (was : Option log.Minting) → index_of e.handle.0 ≢ index_of h → log.minting_by h c (Some e) was ≡ was
-other-minting h c e was other = let t = other-test e.handle.0 h (λ (is : e.handle.0 ≡ h). other (ap index_of is)) in rw t refl
-
 waits-next : (k : Declarations) (past : Past) (queues : LinesState) (c : ℕ) (q : QueueId) (e : Event) (r j : ℕ) (x : Item) (n : IsNext k past queues c q.0)
     → index_of e.handle.0 ≡ n.index → j ≢ n.index → IsWaiting k past r x j → IsWaiting k (after_take past c q e) r x j
 waits-next k past queues c q e r j x n at other w =
@@ -365,21 +333,27 @@ parts-take k past p p' queues objects queues' c q e simple s n at stands same li
   where
     set : q.0 < length queues.lists
     set = let a = s.queue_lists in let b = n.may.queue in omega arith
+
     here : list_at queues' q.0 ≡ n.more
     here = list-same queues queues' q.0 (drop 1 (list_at queues q.0)) set lists ∙ ap (drop 1) n.is
+
     elsewhere : (r : ℕ) → q.0 ≢ r → list_at queues' r ≡ list_at queues r
     elsewhere r other = list-other queues queues' q.0 r (drop 1 (list_at queues q.0)) (λ (e : r ≡ q.0). other (sym e)) lists
+
     once : NoneTwice (n.index ∷ n.more)
     once = subst NoneTwice n.is (s.waiting_once q.0)
+
     first : (d : ℕ) → FirstPair Item (IsWaiting k past q.0) (waiting k past q.0 d) n.index n.more
     first d = first-pair (IsWaiting k past q.0) (waiting k past q.0 d) n.index n.more
         (subst (λ is. Pairs (IsWaiting k past q.0) (waiting k past q.0 d) is) n.is (s.waits q.0 d n.may.queue))
+
     own_gone : (d : ℕ) → gone k (after_take past c q e) q.0 d ≤ length (arrivals k past q.0 d)
     own_gone d =
         let own = own-test q.0 in
         let more = some-more (gone k past q.0 d) (arrivals k past q.0 d) (first d).rest (first d).item (first d).is in
         let g = gone-next k past c q.0 d q e simple ∙ ap (λ (b : Bool). if b then gone k past q.0 d + 1 else gone k past q.0 d) own in
         omega (arith, g, more)
+
     gone_at : (r d : ℕ) → (((q.0 == r) ≡ true) × (q.0 ≡ r)) ⊎ (((q.0 == r) ≡ false) × (q.0 ≢ r))
         → gone k (after_take past c q e) r d ≤ length (arrivals k past r d)
     gone_at r d (inl t) = subst (λ m. gone k (after_take past c q e) m d ≤ length (arrivals k past m d)) t.1 (own_gone d)
@@ -387,6 +361,7 @@ parts-take k past p p' queues objects queues' c q e simple s n at stands same li
         let g = gone-next k past c r d q e simple ∙ ap (λ (b : Bool). if b then gone k past r d + 1 else gone k past r d) t.0 in
         let w = s.gone_within r d in
         omega (arith, g, w)
+
     own_waits : (d : ℕ) → Pairs (IsWaiting k (after_take past c q e) q.0) (waiting k (after_take past c q e) q.0 d) (list_at queues' q.0)
     own_waits d =
         let left = waiting-next k past c d q e simple ∙ ap (drop 1) (first d).is in
@@ -394,6 +369,7 @@ parts-take k past p p' queues objects queues' c q e simple s n at stands same li
         (subst (λ xs. Pairs (IsWaiting k (after_take past c q e) q.0) xs n.more) (sym left)
         (pairs-apart (IsWaiting k past q.0) (IsWaiting k (after_take past c q e) q.0) (first d).rest n.more n.index
         (λ x j other. waits-next k past queues c q e q.0 j x n at other) once.0 (first d).later))
+
     waits_at : (r d : ℕ) → r < length k.queues → (((q.0 == r) ≡ true) × (q.0 ≡ r)) ⊎ (((q.0 == r) ≡ false) × (q.0 ≢ r))
         → Pairs (IsWaiting k (after_take past c q e) r) (waiting k (after_take past c q e) r d) (list_at queues' r)
     waits_at r d lt (inl t) =
@@ -403,6 +379,7 @@ parts-take k past p p' queues objects queues' c q e simple s n at stands same li
         (subst (λ xs. Pairs (IsWaiting k (after_take past c q e) r) xs (list_at queues r)) (sym (waiting-elsewhere k past c r d q e simple t.1))
         (pairs-map (IsWaiting k past r) (IsWaiting k (after_take past c q e) r) (waiting k past r d) (list_at queues r)
         (λ x j w. waits-next k past queues c q e r j x n at (waits-apart k past q.0 r n.index j n.may.item x t.1 n.stands w) w) (s.waits r d lt)))
+
     once_at : (r : ℕ) → (((q.0 == r) ≡ true) × (q.0 ≡ r)) ⊎ (((q.0 == r) ≡ false) × (q.0 ≢ r)) → NoneTwice (list_at queues' r)
     once_at r (inl t) = subst (λ r. NoneTwice (list_at queues' r)) t.1 (subst NoneTwice (sym here) once.1)
     once_at r (inr t) = subst NoneTwice (sym (elsewhere r t.1)) (s.waiting_once r)

@@ -17,7 +17,7 @@ use Rattle.em_desk.specs.Stands.{Stands, state_of}
 use Rattle.em_desk.proofs.Mapped.{none-long}
 use Rattle.em_desk.proofs.Room.{other-test}
 use Rattle.em_desk.proofs.Numbers.{all-at}
-use Rattle.em_desk.proofs.Ready.{boot-over, closed-none, none-closed, idle-is, busy-is, wanted-is, unwanted-is, none-waits, may-take, end-busy, end-quiet, end-limit, end-none, same-number}
+use Rattle.em_desk.proofs.Ready.{boot-over, closed-none, none-closed, idle-is, busy-is, wanted-is, unwanted-is, none-waits, is-next, end-busy, end-quiet, end-limit, end-none, same-number}
 use Rattle.em_desk.proofs.desk.Desk.end_kind.Goals as goal
 use Rattle.em_desk.proofs.desk.Desk.end_kind.Goals.{then-is_empty-via-then-is_empty, then-is_empty-via-else-is_empty+then-not-are_closed}
 
@@ -67,7 +67,7 @@ wanted d s (Some q) v some found =
     let past = reverse d.log.items in
     let least = s.keeps.simple.some_cores in
     wanted-is d.declarations d.limits past d.pools d.contexts.items d.waiting d.kept d.started 0 q s.keeps
-    (may-take d.declarations d.limits past d.pools d.contexts.items d.waiting d.kept d.started 0 q s.keeps (omega arith) v.over v.closed found.0 found.1.0)
+    (is-next d.declarations d.limits past d.pools d.contexts.items d.waiting d.kept d.started 0 q s.keeps (omega arith) v.over v.closed found.0 found.1.0).may
 
 unwanted : (d : Inside) (s : Stands d) (o : Option ℕ) → is_some o ≡ false
     → MatchOption o ((i : ℕ) → list_at d.waiting i ≡ []) (λ i. (i < length d.waiting.lists) × ((0 < length (list_at d.waiting i)) × ((j : ℕ) → j < i → list_at d.waiting j ≡ [])))
@@ -82,14 +82,14 @@ returns-then-is_empty c =
     let d = c.self.inside in
     let s = c.self.invariant in
     elim c.then-is_empty.branch [
-      then-is_empty-via-then-is_empty w ↦
-        in_value d c.args.self.now None c.self.view_is
-        (end-busy d.declarations d.limits (reverse d.log.items) (empty-idle d (sym c.is_empty.ensures ∙ w.if-is_empty.true)))
-    | then-is_empty-via-else-is_empty+then-not-are_closed w ↦
-        in_value d c.args.self.now None c.self.view_is
-        (end-busy d.declarations d.limits (reverse d.log.items)
-        (busy-is d.declarations d.limits (reverse d.log.items) d.pools d.contexts.items d.waiting d.kept d.started s.keeps
-        (all_closed d w.as_slice.result.now w.are_closed.result false w.as_slice.ensures.value w.are_closed.ensures w.if-not-are_closed.true)))
+      | then-is_empty-via-then-is_empty w ↦
+          in_value d c.args.self.now None c.self.view_is
+          (end-busy d.declarations d.limits (reverse d.log.items) (empty-idle d (sym c.is_empty.ensures ∙ w.if-is_empty.true)))
+      | then-is_empty-via-else-is_empty+then-not-are_closed w ↦
+          in_value d c.args.self.now None c.self.view_is
+          (end-busy d.declarations d.limits (reverse d.log.items)
+          (busy-is d.declarations d.limits (reverse d.log.items) d.pools d.contexts.items d.waiting d.kept d.started s.keeps
+          (all_closed d w.as_slice.result.now w.are_closed.result false w.as_slice.ensures.value w.are_closed.ensures w.if-not-are_closed.true)))
     ]
 
 pub returns-then-is_none : goal.returns-then-is_none
