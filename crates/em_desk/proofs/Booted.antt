@@ -1,5 +1,5 @@
 -- Boot is open until it has ended.
-use Rattle.std.proofs.Common.{◌≡◌, ◌≢◌, ◌⊎◌, inl, inr, ℕ, ◌<◌, ◌==◌, Bool, true, false, [], ◌∷◌, List, Option, Some, None, refl, ap, sym, ◌∙◌, subst, if◌then◌else◌}
+use Rattle.std.proofs.Common.{◌≡◌, ◌≢◌, ◌⊎◌, inl, inr, ℕ, ◌==◌, Bool, true, false, [], ◌∷◌, Option, Some, refl, ap, sym, ◌∙◌, subst, if◌then◌else◌}
 use Rattle.std.proofs.lemmas.Bool.Decides.{eqb_tells}
 use Rattle.em_log.specs.declared.declarations.Declarations.{Declarations}
 use Rattle.em_log.specs.declared.entry.Body.{Body}
@@ -12,7 +12,6 @@ use Rattle.em_log.proofs.Moments.{Moment, EnterMoment, EntersBoot, EntersStep, a
 use Rattle.em_desk.specs.Plain.{IsPlain, ArePlain}
 use Rattle.em_desk.proofs.Plain.{by_plain}
 use Rattle.em_desk.proofs.Graphs.{no-step}
-use Rattle.em_desk.proofs.Room.{other-test}
 
 abbrev pub boot : What
 boot = What.Enter Body.Boot

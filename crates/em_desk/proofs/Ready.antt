@@ -1,5 +1,5 @@
 -- When a queue of a simple graph may be taken from, and how a history has ended.
-use Rattle.std.proofs.Common.{◌≡◌, ◌≢◌, ◌⊎◌, inl, inr, ℕ, zero, suc, ◌+◌, ◌<◌, ◌==◌, nat_lt, nat_le, Bool, true, false, not, ◌&&◌, ◌||◌, List, [], ◌∷◌, length, Option, Some, None, is_none, IsTrue, refl, ap, sym, ◌∙◌, subst, arith, if◌then◌else◌}
+use Rattle.std.proofs.Common.{◌≡◌, ℕ, ◌<◌, ◌==◌, nat_lt, nat_le, Bool, true, false, not, ◌&&◌, ◌||◌, List, [], ◌∷◌, length, Some, None, is_none, refl, ap, sym, ◌∙◌, subst, arith, if◌then◌else◌}
 use Rattle.std.specs.List.{list_all, list_any}
 use Rattle.std.proofs.lemmas.Bool.{lt-ltb, le-ltb, false≢true}
 use Rattle.em_log.specs.declared.ask.Answer.{Answer}
@@ -11,7 +11,7 @@ use Rattle.em_log.specs.declared.ids.Limits.{Limits}
 use Rattle.em_log.specs.History.{Past}
 use Rattle.em_log.specs.Declarations.{below, rank_of}
 use Rattle.em_log.specs.Contexts.{context, boot_ended}
-use Rattle.em_log.specs.Operations.{step, all_done, is_done}
+use Rattle.em_log.specs.Operations.{step, all_done}
 use Rattle.em_log.specs.Arrivals.{Item}
 use Rattle.em_log.specs.Places.{waiting, taken, started, promised, taken_by_all}
 use Rattle.em_log.specs.Atomic.{is_empty}
@@ -26,8 +26,8 @@ use Rattle.em_desk.specs.Openings.{opening_at, is_closed, is_boot}
 use Rattle.em_desk.specs.Stands.{Keeps, IsOpening, NoContext, InBoot, InReceive, Stage, Fresh, Booting, Running, IsWaiting, Pairs}
 use Rattle.em_desk.proofs.Plain.{no-operations}
 use Rattle.em_desk.proofs.Graphs.{IsServable, servable, no-step}
-use Rattle.em_desk.proofs.Room.{other-test, own-test}
-use Rattle.em_desk.proofs.Numbers.{all-below, none-below, not-all-below, some-below, all-at, Fails, not-all-at}
+use Rattle.em_desk.proofs.Room.{own-test}
+use Rattle.em_desk.proofs.Numbers.{all-below, none-below, not-all-below, some-below, all-at, not-all-at}
 use Rattle.em_desk.proofs.Booted.{boot-open}
 
 -- contexts

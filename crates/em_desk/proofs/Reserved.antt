@@ -1,6 +1,6 @@
 -- The desk's fields once a take has made room, and after it.
-use Rattle.std.proofs.Common.{◌≡◌, ◌≢◌, ◌∙◌, ℕ, suc, ◌+◌, ◌*◌, ◌<◌, ◌≤◌, ◌==◌, Bool, true, false, List, [], ◌∷◌, ◌++◌, length, reverse, drop, Option, Some, None, is_some, Vec, Global, refl, ap, sym, subst, arith, slice_set}
-use Rattle.std.specs.Vec.{vec_len, vec_capacity, with_item}
+use Rattle.std.proofs.Common.{◌≡◌, ◌≢◌, ◌∙◌, ℕ, suc, ◌+◌, ◌<◌, ◌≤◌, ◌==◌, Bool, true, false, List, [], ◌∷◌, ◌++◌, length, reverse, drop, Some, None, is_some, Vec, Global, refl, ap, sym, subst, arith, slice_set}
+use Rattle.std.specs.Vec.{vec_len, vec_capacity}
 use Rattle.std.proofs.lemmas.List.{length-reverse}
 use Rattle.std.proofs.lemmas.Bool.{false≢true}
 use Rattle.em_log.specs.declared.ask.Answer.{Answer}
@@ -17,10 +17,9 @@ use Rattle.em_log.specs.Operations.{step}
 use Rattle.em_log.specs.Leads.{event_with, item_again}
 use Rattle.em_log.specs.Answers.{Takes, is_first, object_id}
 use Rattle.em_pool.specs.declared.place.Place.{Place}
-use Rattle.em_pool.specs.Steps.{Step, Minted, Shifted, mintings}
+use Rattle.em_pool.specs.Steps.{Step, Minted, Shifted}
 use Rattle.em_pool.specs.Handles as pool
-use Rattle.em_pool.specs.Places.{place}
-use Rattle.em_pool.specs.State.{PoolState, place_at}
+use Rattle.em_pool.specs.State.{PoolState}
 use Rattle.em_pool.specs.Stands as pools
 use Rattle.em_desk.specs.declared.desk.Desk.TheInside.{Inside}
 use Rattle.em_desk.specs.declared.opening.Opening.{Opening}

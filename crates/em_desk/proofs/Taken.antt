@@ -1,5 +1,5 @@
 -- The desk keeps all that it keeps, after room was made, after boot has begun, and after a take.
-use Rattle.std.proofs.Common.{◌≡◌, ◌≢◌, ◌⊎◌, inl, inr, ℕ, zero, suc, ◌+◌, ◌*◌, ◌<◌, ◌≤◌, ◌==◌, Bool, true, false, List, [], ◌∷◌, length, drop, Option, Some, None, refl, ap, sym, ◌∙◌, subst, arith, slice_set, if◌then◌else◌}
+use Rattle.std.proofs.Common.{◌≡◌, ◌≢◌, ◌⊎◌, inl, inr, ℕ, suc, ◌+◌, ◌<◌, ◌≤◌, ◌==◌, Bool, true, false, List, [], ◌∷◌, length, drop, Some, None, refl, ap, sym, ◌∙◌, subst, arith, slice_set, if◌then◌else◌}
 use Rattle.std.proofs.lemmas.Bool.Decides.{eqb_tells}
 use Rattle.std.proofs.lemmas.List.{length-set, get_or-set_same, get_or-set_other}
 use Rattle.em_log.specs.declared.declarations.Declarations.{Declarations}
@@ -7,14 +7,12 @@ use Rattle.em_log.specs.declared.entry.Body.{Body}
 use Rattle.em_log.specs.declared.entry.Entry.{Entry}
 use Rattle.em_log.specs.declared.entry.Event.{Event}
 use Rattle.em_log.specs.declared.entry.What.{What}
-use Rattle.em_log.specs.declared.ids.EoId.{EoId}
 use Rattle.em_log.specs.declared.ids.Limits.{Limits}
 use Rattle.em_log.specs.declared.ids.QueueId.{QueueId}
 use Rattle.em_log.specs.History.{Past, entry_by, index_of, handle_of}
 use Rattle.em_log.specs.Declarations.{object_of}
 use Rattle.em_log.specs.Contexts.{context}
-use Rattle.em_log.specs.Arrivals.{Item}
-use Rattle.em_log.specs.Places.{taken, waiting, kept}
+use Rattle.em_log.specs.Places.{waiting, kept}
 use Rattle.em_log.specs.Leads.{item_again}
 use Rattle.em_log.specs.Lawful.{Lawful, Boots, Takes}
 use Rattle.em_log.specs.Answers.{object_id}
@@ -25,18 +23,18 @@ use Rattle.em_pool.specs.State.{PoolState}
 use Rattle.em_pool.specs.Stands as pools
 use Rattle.em_desk.specs.declared.opening.Opening.{Opening}
 use Rattle.em_desk.specs.Simple.{IsSimple}
-use Rattle.em_desk.specs.Plain.{ArePlain, Boots as BootPlain}
+use Rattle.em_desk.specs.Plain.{Boots as BootPlain}
 use Rattle.em_desk.specs.Parts.{pool_steps}
 use Rattle.em_desk.specs.Lines.{LinesState, list_at}
 use Rattle.em_desk.specs.Openings.{opening_at}
-use Rattle.em_desk.specs.Stands.{Keeps, IsOpening, NoContext, InBoot, InReceive, Stage, Booting, Running, IsParked, IsWaiting, IsKept, spare_of, spares}
+use Rattle.em_desk.specs.Stands.{Keeps, IsOpening, NoContext, InBoot, InReceive, Booting, Running, IsParked, IsWaiting, IsKept, spare_of, spares}
 use Rattle.em_desk.proofs.Graphs.{QueueAt, Absent, Present, queue-at}
-use Rattle.em_desk.proofs.Room.{own-test, other-test, spares-stay}
+use Rattle.em_desk.proofs.Room.{other-test, spares-stay}
 use Rattle.em_desk.proofs.Spares.{spares-most, spares-grown, left-begun}
 use Rattle.em_desk.proofs.Parking.{parked-unminted, pairs-map, waiting-parked}
 use Rattle.em_desk.proofs.Next.{PartsStand, parts-of}
 use Rattle.em_desk.proofs.Ready.{IsNext, takes-choice, none-closed}
-use Rattle.em_desk.proofs.Taking.{took, started_with, after_take, block-next, take-is, begun-next, plain-next, untaken-next, parts-take}
+use Rattle.em_desk.proofs.Taking.{took, after_take, block-next, take-is, begun-next, plain-next, untaken-next, parts-take}
 
 -- room for more
 

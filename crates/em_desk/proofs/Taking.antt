@@ -1,9 +1,9 @@
 -- What a take leaves of what the desk keeps.
-use Rattle.std.proofs.Common.{◌≡◌, ◌≢◌, ◌⊎◌, inl, inr, ℕ, zero, suc, ◌+◌, ◌*◌, ◌-◌, ◌<◌, ◌≤◌, ◌==◌, Bool, true, false, not, ◌&&◌, ◌||◌, List, [], ◌∷◌, length, map, take, drop, Option, Some, None, refl, ap, sym, ◌∙◌, subst, arith, slice_set, if◌then◌else◌, IsTrue}
+use Rattle.std.proofs.Common.{◌≡◌, ◌≢◌, ◌⊎◌, inl, inr, ℕ, zero, suc, ◌+◌, ◌<◌, ◌≤◌, ◌==◌, Bool, true, false, ◌&&◌, List, [], ◌∷◌, length, map, take, drop, Option, Some, None, refl, ap, sym, ◌∙◌, subst, arith, slice_set, if◌then◌else◌}
 use Rattle.std.specs.Option.{option_or, option_map, option_and_then}
 use Rattle.std.proofs.lemmas.Bool.{false≢true}
 use Rattle.std.proofs.lemmas.Bool.Decides.{eqb_tells}
-use Rattle.std.proofs.lemmas.List.{length-set, length-drop, get_or-set_same, get_or-set_other}
+use Rattle.std.proofs.lemmas.List.{length-set, length-drop}
 use Rattle.em_log.specs.declared.ask.Context.{Context}
 use Rattle.em_log.specs.declared.declarations.Declarations.{Declarations}
 use Rattle.em_log.specs.declared.entry.Entry.{Entry}
@@ -13,39 +13,34 @@ use Rattle.em_log.specs.declared.ids.EoId.{EoId}
 use Rattle.em_log.specs.declared.ids.Limits.{Limits}
 use Rattle.em_log.specs.declared.ids.QueueId.{QueueId}
 use Rattle.em_log.specs.History.{Past, entry_by, entries_by, onto, has, index_of, handle_of}
-use Rattle.em_log.specs.Declarations.{event_total, kind_of, is_local, object_of}
+use Rattle.em_log.specs.Declarations.{event_total, object_of}
 use Rattle.em_log.specs.Handles as log
-use Rattle.em_log.specs.Contexts.{context, context_object, object_begun, boot_ended}
+use Rattle.em_log.specs.Contexts.{context, object_begun}
 use Rattle.em_log.specs.Order.{Ticket, open_ticket}
-use Rattle.em_log.specs.Arrivals.{Item, item_of, arrivals, is_for}
-use Rattle.em_log.specs.Places.{gone, waiting, taken, kept, started}
+use Rattle.em_log.specs.Arrivals.{Item, item_of, arrivals}
+use Rattle.em_log.specs.Places.{gone, waiting, taken}
 use Rattle.em_log.specs.Atomic.{holds, cells}
-use Rattle.em_log.specs.Eligible.{is_choice, take_size, ticket_drawn}
+use Rattle.em_log.specs.Eligible.{take_size, ticket_drawn}
 use Rattle.em_log.specs.Leads.{event_with, item_again}
 use Rattle.em_log.specs.Tails.{tail, first_start}
-use Rattle.em_log.specs.Lawful.{Lawful, Takes, Begins}
 use Rattle.em_log.specs.Answers.{block, context_told, context_from, taken_as, object_id, cells_as}
-use Rattle.em_log.proofs.Blocks.{block-lawful}
 use Rattle.em_pool.specs.declared.place.Place.{Place}
 use Rattle.em_pool.specs.Steps.{Step, Minted, Shifted}
 use Rattle.em_pool.specs.Handles as pool
-use Rattle.em_pool.specs.Places.{shift, place, place_by, place_of}
+use Rattle.em_pool.specs.Places.{shift, place, place_by}
 use Rattle.em_pool.specs.State.{PoolState}
 use Rattle.em_pool.specs.Stands as pools
-use Rattle.em_desk.specs.declared.opening.Opening.{Opening}
 use Rattle.em_desk.specs.Simple.{IsSimple}
 use Rattle.em_desk.specs.Plain.{ArePlain, Starts as StartPlain, Takes as TakePlain}
 use Rattle.em_desk.specs.Parts.{pool_steps, taken_steps}
 use Rattle.em_desk.specs.Lines.{LinesState, list_at}
-use Rattle.em_desk.specs.Openings.{opening_at}
-use Rattle.em_desk.specs.Stands.{Keeps, IsOpening, NoContext, InBoot, InReceive, Stage, Running, IsParked, IsWaiting, IsKept, Pairs, NoneTwice, spare_of, spares}
+use Rattle.em_desk.specs.Stands.{IsParked, IsWaiting, IsKept, Pairs, NoneTwice}
 use Rattle.em_desk.proofs.Plain.{no-ticket}
-use Rattle.em_desk.proofs.Graphs.{servable, not-local, holds-none, QueueAt, Absent, Present, queue-at}
+use Rattle.em_desk.proofs.Graphs.{servable, not-local, holds-none}
 use Rattle.em_desk.proofs.Alike.{same-generation, same-minting, same-last}
-use Rattle.em_desk.proofs.Room.{own-test, other-test, spare-other, spares-stay}
+use Rattle.em_desk.proofs.Room.{own-test, other-test}
 use Rattle.em_desk.proofs.Parking.{place-minted, parked-unminted, parked-minted, pairs-map, waiting-parked, other-minting}
-use Rattle.em_desk.proofs.Next.{PartsStand, parts-of}
-use Rattle.em_desk.proofs.Spares.{spares-most, spares-grown, left-begun}
+use Rattle.em_desk.proofs.Next.{PartsStand}
 use Rattle.em_desk.proofs.Distinct.{list-same, list-other}
 use Rattle.em_desk.proofs.Ready.{MayTake, FirstPair, first-pair, IsNext}
 

@@ -1,11 +1,9 @@
-use Rattle.std.proofs.Common.{◌≡◌, ℕ, [], ◌∷◌, List, Some, sym, ap, ◌∙◌, subst}
-use Rattle.em_log.specs.declared.entry.Event.{Event}
+use Rattle.std.proofs.Common.{◌≡◌, ◌∷◌, Some, sym, ap, ◌∙◌, subst}
 use Rattle.em_log.specs.Leads.{event_with}
 use Rattle.em_pool.specs.declared.place.Place.{Place}
-use Rattle.em_pool.specs.Steps.{Step, Minted, Shifted}
+use Rattle.em_pool.specs.Steps.{Minted, Shifted}
 use Rattle.em_pool.specs.Handles.{next_handle, last_event}
 use Rattle.em_pool.specs.Stands.{Stands}
-use Rattle.em_desk.specs.Lines.{list_at}
 use Rattle.em_desk.proofs.starting.start.Goals as goal
 use Rattle.em_desk.proofs.starting.start.Goals.{in-Some, in-None}
 

@@ -1,4 +1,4 @@
-use Rattle.std.proofs.Common.{◌≡◌, ◌≢◌, ◌∙◌, ◌<◌, ◌==◌, ℕ, Bool, true, false, [], List, length, reverse, Option, Some, None, is_some, ap, sym, subst, arith}
+use Rattle.std.proofs.Common.{◌≡◌, ◌∙◌, ◌<◌, ◌==◌, ℕ, Bool, true, false, [], List, length, reverse, Option, Some, None, is_some, ap, sym, subst, arith}
 use Rattle.std.specs.List.{list_all}
 use Rattle.std.specs.Option.{MatchOption}
 use Rattle.std.specs.Vec.{vec_len}
@@ -10,7 +10,7 @@ use Rattle.em_log.specs.Eligible.{is_idle, is_wanted}
 use Rattle.em_log.specs.Answers.{end_of}
 use Rattle.em_desk.specs.declared.desk.Desk.TheInside.{Inside}
 use Rattle.em_desk.specs.declared.opening.Opening.{Opening}
-use Rattle.em_desk.specs.Lines.{LinesState, list_at}
+use Rattle.em_desk.specs.Lines.{list_at}
 use Rattle.em_desk.specs.Openings.{opening_at, is_closed, is_boot}
 use Rattle.em_desk.specs.State.{DeskState}
 use Rattle.em_desk.specs.Stands.{Stands, state_of}

@@ -1,9 +1,7 @@
-use Rattle.std.proofs.Common.{◌≡◌, ◌∙◌, ℕ, ◌+◌, ◌<◌, ◌≤◌, ◌==◌, Bool, true, false, [], ◌∷◌, List, length, reverse, Some, None, ap, sym, subst, refl, arith, slice_set, if◌then◌else◌}
+use Rattle.std.proofs.Common.{◌≡◌, ◌∙◌, ◌<◌, true, List, reverse, Some, ap, sym, subst, refl, arith, slice_set, if◌then◌else◌}
 use Rattle.std.specs.List.{list_all}
 use Rattle.em_log.specs.declared.ask.Answer.{Answer}
 use Rattle.em_log.specs.declared.ask.Reply.{Reply}
-use Rattle.em_log.specs.declared.entry.Entry.{Entry}
-use Rattle.em_log.specs.declared.entry.Event.{Event}
 use Rattle.em_log.specs.declared.entry.What.{What}
 use Rattle.em_log.specs.declared.ids.EoId.{EoId}
 use Rattle.em_log.specs.declared.ids.QueueId.{QueueId}
@@ -11,12 +9,11 @@ use Rattle.em_log.specs.History.{Past, entry_by}
 use Rattle.em_log.specs.Declarations.{object_of}
 use Rattle.em_log.specs.Contexts.{boot_ended}
 use Rattle.em_log.specs.Leads.{item_again}
-use Rattle.em_log.specs.Answers.{Takes, Early, Rests, Receives, RestAnswer, block, context_told, object_id}
+use Rattle.em_log.specs.Answers.{Early, Rests, Receives, RestAnswer, block, context_told, object_id}
 use Rattle.em_desk.specs.declared.opening.Opening.{Opening}
 use Rattle.em_desk.specs.Plain.{ArePlain}
 use Rattle.em_desk.specs.Parts.{pool_steps}
-use Rattle.em_desk.specs.Openings.{opening_at, is_boot, is_closed}
-use Rattle.em_desk.specs.Stands.{Stands}
+use Rattle.em_desk.specs.Openings.{is_closed}
 use Rattle.em_desk.proofs.Graphs.{no-step}
 use Rattle.em_desk.proofs.Ready.{IsNext, boot-early, no-choice, none-left, none-waits, rests-quiet, rests-limit, takes-choice}
 use Rattle.em_desk.proofs.Taking.{after_take, block-next, told-next, take-is, receive_of, plain-next}
