@@ -172,8 +172,8 @@ parts-claim k past p p' queues objects objects' c x i is e s f object first set 
       gone_within = s.gone_within;
       waits = λ q d lt. pairs-map _ _ _ _
           (λ y j w. let other = apart (Place.Waiting (record { 0 = q })) y.handle j (λ (e : Place.Kept (record { 0 = x }) ≡ Place.Waiting (record { 0 = q })). absurd cc) w.parked in
-          waiting-parked k past now q y j (λ h p. stays _ h j other p)
-          (other-minting y.handle c e (log.minting past y.handle) (λ same. other (same ∙ w.parked.index))) w) (s.waits q d lt);
+              waiting-parked k past now q y j (λ h p. stays _ h j other p)
+              (other-minting y.handle c e (log.minting past y.handle) (λ same. other (same ∙ w.parked.index))) w) (s.waits q d lt);
       waiting_once = s.waiting_once;
       object_lists = len ∙ s.object_lists;
       object_room = room ∙ s.object_room;
@@ -183,10 +183,8 @@ parts-claim k past p p' queues objects objects' c x i is e s f object first set 
   where
     here : list_at objects' x ≡ is
     here = list-same objects objects' x (drop 1 (list_at objects x)) set lists ∙ ap (drop 1) first
-
     elsewhere : (y : ℕ) → y ≢ x → list_at objects' y ≡ list_at objects y
     elsewhere y other = list-other objects objects' x y (drop 1 (list_at objects x)) other lists
-
     kept-here : kept k (entry_by c (claim_of (Some e)) ∷ past) x ≡ f.more
     kept-here = kept-now k past c x x e object ∙ (own (eqb_tells x x) ∙ ap (drop 1) f.kept)
       where
@@ -194,7 +192,6 @@ parts-claim k past p p' queues objects objects' c x i is e s f object first set 
             → (if x == x then drop 1 (kept k past x) else kept k past x) ≡ drop 1 (kept k past x)
         own (inl t) = rw t.0 refl
         own (inr t) = absurd (t.1 refl)
-
     by_object : ((h j : ℕ) → index_of e.handle.0 ≢ j → IsKept k past x h j → IsKept k (entry_by c (claim_of (Some e)) ∷ past) x h j)
         → ((y : ℕ) → x ≢ y → (h j : ℕ) → IsKept k past y h j → IsKept k (entry_by c (claim_of (Some e)) ∷ past) y h j) → (y : ℕ) → y < length k.running
         → (((y == x) ≡ true) × (y ≡ x)) ⊎ (((y == x) ≡ false) × (y ≢ x))
@@ -209,7 +206,6 @@ parts-claim k past p p' queues objects objects' c x i is e s f object first set 
         (sym (kept-now k past c x y e object ∙ ap (λ (b : Bool). if b then drop 1 (kept k past y) else kept k past y) t.0))
         (subst (λ js. Pairs (IsKept k (entry_by c (claim_of (Some e)) ∷ past) y) (kept k past y) js) (sym (elsewhere y t.1))
         (pairs-map _ _ _ _ (others y (λ (same : x ≡ y). t.1 (sym same))) (s.keeps y lt)))
-
     once_at : (y : ℕ) → (((y == x) ≡ true) × (y ≡ x)) ⊎ (((y == x) ≡ false) × (y ≢ x)) → NoneTwice (list_at objects' y)
     once_at y (inl t) =
         let both = subst NoneTwice first (s.kept_once x) in
