@@ -177,10 +177,10 @@ held-next k l past c d w plain p moment same =
     (λ m. same ∙ boots m)
     (λ q m. taken-held c d (take 1 (waiting k past q.0 d)) (pool_steps k past) ∙ (same ∙ unminted (d == c) begun hs))
     (λ q e m. ap (λ hs. if d == c then hs ++ e.handle.0 ∷ [] else hs) same
-        ∙ started-alike (d == c) e hs (λ t. at-core (λ n. log.held past n ≡ []) d c t (closed-held past d plain m.closed)))
+    ∙ started-alike (d == c) e hs (λ t. at-core (λ n. log.held past n ≡ []) d c t (closed-held past d plain m.closed)))
     (λ lost m. ap (λ hs. if d == c then [] else hs) same)
     (λ p e m. ap (λ hs. if d == c then hs ++ e.handle.0 ∷ [] else hs) same
-        ∙ minted-alike (d == c) begun e hs (λ t. open-at k past d c m.open_context.began m.open_context.began m.open_context.context t))
+    ∙ minted-alike (d == c) begun e hs (λ t. open-at k past d c m.open_context.began m.open_context.began m.open_context.context t))
     (λ h m. ap (without h.0) same ∙ unminted (d == c) begun (without h.0 hs))
     (λ h q m. ap (without h.0) same ∙ unminted (d == c) begun (without h.0 hs))
     (λ h m. ap (without h.0) same ∙ unminted (d == c) begun (without h.0 hs))

@@ -75,10 +75,12 @@ end-opening k past c lost d opens lt was = by_core (eqb_tells c d) was
   where
     same : context (entry_by c (end_of lost) ∷ past) c ≡ None
     same = let t = own-test c in rw t refl
+
     stays : (o : Opening) → c ≢ d → IsOpening k past d o → IsOpening k (entry_by c (end_of lost) ∷ past) d o
     stays o other (NoContext is none) = let t = other-test c d other in NoContext is (rw t none)
     stays o other (InBoot is at) = let t = other-test c d other in InBoot is (rw t at)
     stays o other (InReceive q e x is at object) = let t = other-test c d other in InReceive q e x is (rw t at) object
+
     by_core : (((c == d) ≡ true) × (c ≡ d)) ⊎ (((c == d) ≡ false) × (c ≢ d)) → IsOpening k past d (opening_at opens d)
         → IsOpening k (entry_by c (end_of lost) ∷ past) d (opening_at (slice_set opens c Opening.Closed) d)
     by_core (inl t) was =

@@ -129,10 +129,13 @@ parts-keep k past p p' queues objects objects' c h x simple s o declared is stan
   where
     set : x.0 < length objects.lists
     set = let e = s.object_lists in omega arith
+
     here : list_at objects' x.0 ≡ list_at objects x.0 ++ index_of h ∷ []
     here = list-same objects objects' x.0 (list_at objects x.0 ++ index_of h ∷ []) set lists
+
     elsewhere : (y : ℕ) → y ≢ x.0 → list_at objects' y ≡ list_at objects y
     elsewhere y other = list-other objects objects' x.0 y (list_at objects x.0 ++ index_of h ∷ []) other lists
+
     kept-here : kept k (entry_by c (keep_of h) ∷ past) x.0 ≡ kept k past x.0 ++ h ∷ []
     kept-here = kept-now k past c h x.0 x.0 is ∙ own (x.0 == x.0) (eqb_tells x.0 x.0)
       where
@@ -140,6 +143,7 @@ parts-keep k past p p' queues objects objects' c h x simple s o declared is stan
             → (if x.0 == x.0 then kept k past x.0 ++ h ∷ [] else kept k past x.0) ≡ kept k past x.0 ++ h ∷ []
         own b (inl t) = rw t.0 refl
         own b (inr t) = absurd (t.1 refl)
+
     by_object : IsKept k (entry_by c (keep_of h) ∷ past) x.0 h (index_of h) → (y : ℕ) → y < length k.running
         → Pairs (IsKept k (entry_by c (keep_of h) ∷ past) y) (kept k past y) (list_at objects y)
         → (((y == x.0) ≡ true) × (y ≡ x.0)) ⊎ (((y == x.0) ≡ false) × (y ≢ x.0))
@@ -154,6 +158,7 @@ parts-keep k past p p' queues objects objects' c h x simple s o declared is stan
         subst (λ hs. Pairs (IsKept k (entry_by c (keep_of h) ∷ past) y) hs (list_at objects' y))
         (sym (kept-now k past c h x.0 y is ∙ ap (λ (b : Bool). if b then kept k past y ++ h ∷ [] else kept k past y) t.0))
         (subst (λ is. Pairs (IsKept k (entry_by c (keep_of h) ∷ past) y) (kept k past y) is) (sym (elsewhere y t.1)) before)
+
     once_at : (y : ℕ) → (((y == x.0) ≡ true) × (y ≡ x.0)) ⊎ (((y == x.0) ≡ false) × (y ≢ x.0)) → NoneTwice (list_at objects' y)
     once_at y (inl t) =
         let apart = not-in (IsKept k past x.0) (kept k past x.0) (list_at objects x.0) (index_of h)

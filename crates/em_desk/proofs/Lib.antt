@@ -1,3 +1,11 @@
+pub mod Booted
+pub mod Numbers
+pub mod Ready
+pub mod Spares
+pub mod Taking
+pub mod Taken
+pub mod Reserved
+pub mod Beginning
 pub mod Newest
 pub mod FirstFree
 pub mod Plain

@@ -21,6 +21,7 @@ seen-changed f xs ys i j old new d g seen same lt is next =
     ∙ (ap (λ zs. set zs i (f new)) seen
     ∙ (ap (λ y. set ys i y) (next ∙ ap g (sym here)) ∙ ap (λ n. set ys n (g (get_or ys n d))) same))
 
-pub none-long : (xs : List ℕ) (n : ℕ) → n ≡ length xs → (n == 0) ≡ true → xs ≡ []
+-- a list of length 0 is empty
+pub none-long : {X : Type 0} (xs : List X) (n : ℕ) → n ≡ length xs → (n == 0) ≡ true → xs ≡ []
 none-long [] n is h = refl
 none-long (x ∷ xs) n is h = absurd (false≢true (sym (eqb-suc-zero (length xs)) ∙ (ap (λ m. m == 0) (sym is) ∙ h)))

@@ -52,6 +52,7 @@ has-left w h (x ∷ hs) other is = by_head (eqb_tells x h) (has-left w h hs othe
     later : (b : Bool) → (x == w) ≡ b → (has hs w ≡ true → has (without h hs) w ≡ true) → has (x ∷ without h hs) w ≡ true
     later true t rest = rw t refl
     later false t rest = let tail : has hs w ≡ true = rw t at is in rw t (rest tail)
+
     by_head : (((x == h) ≡ true) × (x ≡ h)) ⊎ (((x == h) ≡ false) × (x ≢ h)) → (has hs w ≡ true → has (without h hs) w ≡ true)
         → has (without h (x ∷ hs)) w ≡ true
     by_head (inl t) rest =
@@ -78,6 +79,7 @@ unspent-held (Minted d e ∷ steps) c w m is core unspent =
     grown : (b : Bool) → has (held steps c) w ≡ true → has (if b then held steps c ++ e.handle.0 ∷ [] else held steps c) w ≡ true
     grown true h = has-more w (held steps c) e.handle.0 h
     grown false h = h
+
     by_handle : (((e.handle.0 == w) ≡ true) × (e.handle.0 ≡ w)) ⊎ (((e.handle.0 == w) ≡ false) × (e.handle.0 ≢ w))
         → (if e.handle.0 == w then Some (record { core = d; event = e }) else pool.minting steps w) ≡ Some m
         → (pool.minting steps w ≡ Some m → has (held steps c) w ≡ true)
@@ -173,6 +175,7 @@ allowed-by steps c w ok = by_minting (pool.minting steps w) refl (pool.spending 
     by_core : (m : log.Minting) (b : Bool) → (m.core == c) ≡ b → log.unspent_fault c m ≡ None → m.core ≡ c
     by_core m true t ok = equal-of m.core c t
     by_core m false t ok = absurd (cc (rw t at ok))
+
     by_minting : (m : Option log.Minting) → pool.minting steps w ≡ m → (s : Option pool.Spending) → pool.spending steps w ≡ s
         → pool.rule_of c w m s ≡ None → IsAllowed steps c w
     by_minting None is s at ok = absurd cc

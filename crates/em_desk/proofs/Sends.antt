@@ -101,10 +101,13 @@ parts-send k past p p' queues objects queues' c h q simple s o declared stands s
   where
     set : q.0 < length queues.lists
     set = let e = s.queue_lists in omega arith
+
     here : list_at queues' q.0 ≡ list_at queues q.0 ++ index_of h ∷ []
     here = list-same queues queues' q.0 (list_at queues q.0 ++ index_of h ∷ []) set lists
+
     elsewhere : (r : ℕ) → q.0 ≢ r → list_at queues' r ≡ list_at queues r
     elsewhere r other = list-other queues queues' q.0 r (list_at queues q.0 ++ index_of h ∷ []) (λ (e : r ≡ q.0). other (sym e)) lists
+
     by_queue : ((at : Place) (j i : ℕ) → can_shift at ≡ true → IsParked k past at j i → IsParked k (entry_by c (send_of h q) ∷ past) at j i)
         → IsWaiting k (entry_by c (send_of h q) ∷ past) q.0 (sent_item h o.minting.0) (index_of h) → (r d : ℕ) → r < length k.queues
         → Pairs (IsWaiting k (entry_by c (send_of h q) ∷ past) r) (waiting k past r d) (list_at queues r)
@@ -121,6 +124,7 @@ parts-send k past p p' queues objects queues' c h q simple s o declared stands s
         subst (λ xs. Pairs (IsWaiting k (entry_by c (send_of h q) ∷ past) r) xs (list_at queues' r))
         (sym (waiting-elsewhere k past q r d c h o.minting.0 simple o.minting.1 t.1))
         (subst (λ is. Pairs (IsWaiting k (entry_by c (send_of h q) ∷ past) r) (waiting k past r d) is) (sym (elsewhere r t.1)) before)
+
     once_at : (r : ℕ) → (((q.0 == r) ≡ true) × (q.0 ≡ r)) ⊎ (((q.0 == r) ≡ false) × (q.0 ≢ r)) → NoneTwice (list_at queues' r)
     once_at r (inl t) =
         let apart = not-in (IsWaiting k past q.0) (waiting k past q.0 0) (list_at queues q.0) (index_of h)

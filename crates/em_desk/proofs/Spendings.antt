@@ -102,7 +102,7 @@ next-alike k past h d w p same alike =
     (λ q. same-as s _ t (taken-spending d h (take 1 (logged.waiting k past q.0 d)) steps) alike)
     (λ q e. same-as s _ t (or-none s) alike)
     (λ lost. let e = same d in
-        rw e (spend-by (has (log.held past d) h) past d (What.End lost None) (pool.losing (length past)) s t refl refl (ByEnd lost refl) alike))
+    rw e (spend-by (has (log.held past d) h) past d (What.End lost None) (pool.losing (length past)) s t refl refl (ByEnd lost refl) alike))
     (λ p e. same-as s _ t (or-none s) alike)
     (λ f. named-by past d h f.0 (What.Free f) (pool.spending_of Spend.Freed (length past)) s t refl refl (ByFree f refl) alike)
     (λ f q. named-by past d h f.0 (What.Send f q None None) (pool.spending_of (Spend.Sent q) (length past)) s t refl refl (BySend f q refl) alike)

@@ -18,7 +18,8 @@ use crate::opening::{Opening, are_closed, closed, is_booting, object_in, receive
 use crate::shapes::{event_count, index_of, object_of};
 use crate::starting::start;
 use em_log::{
-    Answer, Ask, Body, Call, Cells, Config, Context, CoreId, Declarations, EndKind, Entry, Event, Fault, Handle, Limits, Locals, NoMemory, PoolId, QueueId, Reply, What, Words, declare,
+    Answer, Ask, Body, Call, Cells, Config, Context, CoreId, Declarations, EndKind, Entry, Event,
+    Fault, Handle, Limits, Locals, NoMemory, PoolId, QueueId, Reply, What, Words, declare,
 };
 use em_pool::{Pools, Spend};
 use std::alloc::Global;
@@ -110,12 +111,13 @@ impl Desk {
         if is_booting(self.contexts.as_slice()) {
             return Ok(told(Answer::Idle));
         }
-        let Some(queue) = self.waiting.filled().map(QueueId) else {
+        let Some(number) = self.waiting.filled() else {
             return Ok(told(rest(self.contexts.as_slice(), Answer::Quiet)));
         };
         if self.started == self.limits.receives {
             return Ok(told(rest(self.contexts.as_slice(), Answer::Limit)));
         }
+        let queue = QueueId(number);
         let object = object_of(&self.declarations, queue);
         let event = start(
             &mut self.log,
@@ -160,7 +162,8 @@ impl Desk {
     {
         let scope = object_in(self.contexts.as_slice(), core);
         let answer = Answer::Refused(fault);
-        self.log.push_reserved(entry(core, What::Fault { call, fault, scope }));
+        self.log
+            .push_reserved(entry(core, What::Fault { call, fault, scope }));
         told(answer)
     }
 
@@ -203,7 +206,8 @@ impl Desk {
         }
         let place = self.log.len() as u64;
         self.pools.spend(core, word, Spend::Freed, place);
-        self.log.push_reserved(entry(core, What::Free(Handle(word))));
+        self.log
+            .push_reserved(entry(core, What::Free(Handle(word))));
         told(Answer::Done)
     }
 
@@ -246,7 +250,8 @@ impl Desk {
         let object = receiver(self.contexts.as_slice(), core);
         self.pools.spend(core, word, Spend::Kept(object), place);
         self.kept.add(u16::from(object.0), index_of(word));
-        self.log.push_reserved(entry(core, What::Keep(Handle(word))));
+        self.log
+            .push_reserved(entry(core, What::Keep(Handle(word))));
         told(Answer::Done)
     }
 
@@ -263,7 +268,8 @@ impl Desk {
             return told(Answer::Nothing);
         };
         let event = self.pools.mint(core, index);
-        self.log.push_reserved(entry(core, What::Claim(Some(event.copy()))));
+        self.log
+            .push_reserved(entry(core, What::Claim(Some(event.copy()))));
         told(Answer::Minted(event))
     }
 
@@ -286,7 +292,8 @@ impl Desk {
     {
         let place = self.log.len() as u64;
         let lost = self.pools.lose(core, place);
-        self.log.push_reserved(entry(core, What::End { lost, cells }));
+        self.log
+            .push_reserved(entry(core, What::End { lost, cells }));
         self.contexts[usize::from(core.0)] = Opening::Closed;
         told(Answer::Done)
     }
