@@ -1,5 +1,5 @@
 //! Which events are free: a set of indices in words of 64 bits, under one word that tells which of them are not 0.
-ghost use Rattle.std.specs.Prelude.{◌≡◌, ℕ, ◌+◌, ◌<◌, ◌≤◌, ◌∷◌, [], true, false, length, replicate, slice_set, slice_index, slice_index_or, ◌*◌, MatchOption, IfOk};
+ghost use Rattle.std.specs.Prelude.{◌≡◌, ◌*◌, ◌<◌, ◌≤◌, true, false, length, replicate, slice_set, slice_index, slice_index_or, IfOk};
 ghost use Rattle.em_pool.specs.Free.{is_member, AreSummed, IsFirst};
 
 use crate::bits::{lowest_from, with_bit};

@@ -8,6 +8,8 @@ pub mod place;
 pub mod pools;
 mod shapes;
 pub mod slot;
+#[cfg(test)]
+mod tests;
 
 pub use place::{Place, Spend, Spent};
 pub use pools::Pools;

@@ -1,5 +1,5 @@
 //! How older handles were spent, found by the handle.
-ghost use Rattle.std.specs.Prelude.{◌≡◌, ℕ, ◌+◌, ◌<◌, ◌≤◌, OnOk, OnErr, None, Some};
+ghost use Rattle.std.specs.Prelude.{◌≡◌, ◌+◌, ◌<◌, ◌≤◌, OnOk};
 ghost use Rattle.std.specs.FinMap as map;
 ghost use Rattle.em_pool.specs.Changes.{older_by};
 

@@ -1,12 +1,12 @@
 //! The pools of a run.
-ghost use Rattle.std.specs.Prelude.{◌≡◌, ℕ, suc, ◌+◌, ◌<◌, ◌≤◌, ◌∷◌, [], List, true, false, length, take, slice_get, Some, None, find, IfOk, OnOk, OnErr, MatchResult, IsTrue};
+ghost use Rattle.std.specs.Prelude.{◌≡◌, ◌+◌, ◌<◌, ◌≤◌, [], ◌∷◌, List, length, find, IfOk, OnOk, OnErr, MatchResult, IsTrue};
 ghost use Rattle.em_log.specs.Declarations.{declarations_of, event_total};
 ghost use Rattle.em_log.specs.History.{index_of, handle_of};
 ghost use Rattle.em_log.specs.Leads.{event_with};
 ghost use Rattle.em_pool.specs.Steps.{Step, Minted, Spent as SpentStep, Shifted, Lost, held as held_by};
-ghost use Rattle.em_pool.specs.Handles.{next_handle, last_event, rule as rule_of_steps, spent_fault as fault_of_spent};
+ghost use Rattle.em_pool.specs.Handles.{next_handle, last_event, rule as rule_of_steps};
 ghost use Rattle.em_pool.specs.Places.{place as place_of_steps, can_shift, is_shift_target, is_mintable, is_free as is_free_place, indices_of, alloc_answer};
-ghost use Rattle.em_pool.specs.State.{PoolState, generation_at, place_at, event_at, rule_at, held_count};
+ghost use Rattle.em_pool.specs.State.{generation_at, place_at, event_at, rule_at, held_count};
 ghost use Rattle.em_pool.specs.Stands.{Stands};
 ghost use Rattle.em_pool.specs.Changes.{opened, minted, spent, shifted, lost};
 
