@@ -1,31 +1,21 @@
 -- The handles of a history are those of its steps of the pools.
-use Rattle.std.proofs.Common.{◌≡◌, ◌≢◌, ◌⊎◌, inl, inr, ℕ, suc, ◌==◌, Bool, true, false, not, ◌&&◌, [], ◌∷◌, ◌++◌, List, length, take, Option, Some, None, is_some, refl, ap, sym, ◌∙◌, subst, if◌then◌else◌}
-use Rattle.std.specs.Option.{option_or}
+use Rattle.std.proofs.Common.{◌≡◌, ◌≢◌, ◌⊎◌, inl, inr, ℕ, ◌==◌, Bool, true, false, [], ◌∷◌, ◌++◌, List, take, Option, Some, None, refl, ap, ◌∙◌, subst, if◌then◌else◌}
 use Rattle.em_log.specs.declared.declarations.Declarations.{Declarations}
 use Rattle.em_log.specs.declared.entry.Body.{Body}
-use Rattle.em_log.specs.declared.entry.Entry.{Entry}
 use Rattle.em_log.specs.declared.entry.Event.{Event}
 use Rattle.em_log.specs.declared.entry.What.{What}
-use Rattle.em_log.specs.declared.fault.Call.{Call}
-use Rattle.em_log.specs.declared.fault.Fault.{Fault}
-use Rattle.em_log.specs.declared.ids.EoId.{EoId}
-use Rattle.em_log.specs.declared.ids.Handle.{Handle}
 use Rattle.em_log.specs.declared.ids.Limits.{Limits}
-use Rattle.em_log.specs.declared.ids.PoolId.{PoolId}
-use Rattle.em_log.specs.declared.ids.QueueId.{QueueId}
-use Rattle.em_log.specs.History.{Past, minted_in, names, has, without, without_all}
+use Rattle.em_log.specs.History.{Past, minted_in, names, without, without_all}
 use Rattle.em_log.specs.Handles as log
 use Rattle.em_log.specs.Contexts.{context, context_after}
 use Rattle.em_log.specs.Arrivals.{Item}
 use Rattle.em_log.specs.Places.{waiting}
 use Rattle.em_log.specs.Lawful.{AllAllowed}
-use Rattle.em_log.proofs.Moments.{Moment, StartMoment, IsOpen, EnterMoment, EntersBoot, EntersStep, allowed-moment}
+use Rattle.em_log.proofs.Moments.{Moment, EnterMoment, EntersBoot, EntersStep, allowed-moment}
 use Rattle.std.proofs.lemmas.Bool.Decides.{eqb_tells}
-use Rattle.em_log.specs.declared.ids.CoreId.{CoreId}
-use Rattle.em_pool.specs.Steps.{Step, Minted, Spent, Shifted, Lost, held, held_after, minter}
+use Rattle.em_pool.specs.Steps.{Step, held}
 use Rattle.em_pool.specs.Handles as pool
-use Rattle.em_pool.specs.Places as places
-use Rattle.em_desk.specs.Plain.{IsPlain, Boots, Takes, Starts, Ends, Allocs, Frees, Sends, Keeps, Claims, Says, Refuses, ArePlain}
+use Rattle.em_desk.specs.Plain.{IsPlain, ArePlain}
 use Rattle.em_desk.specs.Parts.{pool_steps, pool_after, taken_steps, minted_steps}
 use Rattle.em_desk.proofs.Plain.{by_plain}
 

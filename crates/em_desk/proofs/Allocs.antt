@@ -1,5 +1,5 @@
 -- What an alloc answers, and what it leaves of what the desk keeps.
-use Rattle.std.proofs.Common.{◌≡◌, ◌≢◌, ℕ, suc, ◌+◌, ◌*◌, ◌^◌, ◌<◌, ◌≤◌, ◌==◌, nat_lt, Bool, true, false, [], ◌∷◌, List, length, take, find, Option, Some, None, Result, Ok, Err, is_none, refl, ap, sym, ◌∙◌, subst, arith, IsTrue, unwrap_or, if◌then◌else◌}
+use Rattle.std.proofs.Common.{◌≡◌, ◌≢◌, ℕ, ◌+◌, ◌<◌, ◌≤◌, nat_lt, Bool, true, false, ◌∷◌, List, length, take, Option, Some, None, Ok, Err, is_none, refl, ap, sym, ◌∙◌, arith, IsTrue, unwrap_or, if◌then◌else◌}
 use Rattle.em_log.specs.declared.ask.Ask.{Ask}
 use Rattle.em_log.specs.declared.declarations.Declarations.{Declarations}
 use Rattle.em_log.specs.declared.entry.Event.{Event}
@@ -11,22 +11,21 @@ use Rattle.em_log.specs.declared.ids.PoolId.{PoolId}
 use Rattle.em_log.specs.History.{Past, entry_by, index_of, handle_of}
 use Rattle.em_log.specs.Declarations.{event_total, indices_of_pool, words_of_pool, events_of_pool}
 use Rattle.em_log.specs.Handles as log
-use Rattle.em_log.specs.Leads.{refusal, own, lead, alloc_refusal as refusal_of, allocated, event_with}
+use Rattle.em_log.specs.Leads.{lead, alloc_refusal as refusal_of, allocated, event_with}
 use Rattle.em_log.specs.Places as logged
 use Rattle.em_log.specs.Lawful.{Asks, may_ask}
 use Rattle.em_log.specs.Allowance.{left}
 use Rattle.em_pool.specs.declared.place.Place.{Place}
-use Rattle.em_pool.specs.Steps.{Step, Minted}
+use Rattle.em_pool.specs.Steps.{Minted}
 use Rattle.em_pool.specs.Handles as pool
-use Rattle.em_pool.specs.Places.{place, is_free, first_free, live, alloc_refusal, alloc_handle, handle_unless}
+use Rattle.em_pool.specs.Places.{place, is_free, alloc_refusal, alloc_handle, handle_unless}
 use Rattle.em_pool.specs.State.{PoolState}
 use Rattle.em_pool.specs.Stands as pools
 use Rattle.em_desk.specs.declared.opening.Opening.{Opening}
-use Rattle.em_desk.specs.Simple.{IsSimple}
 use Rattle.em_desk.specs.Plain.{Allocs}
 use Rattle.em_desk.specs.Parts.{pool_steps}
-use Rattle.em_desk.specs.Lines.{LinesState, list_at}
-use Rattle.em_desk.specs.Stands.{Keeps, IsParked, IsWaiting, spares}
+use Rattle.em_desk.specs.Lines.{LinesState}
+use Rattle.em_desk.specs.Stands.{Keeps, IsParked, spares}
 use Rattle.em_desk.proofs.Alike.{same-generation}
 use Rattle.em_desk.proofs.Asking.{may-open}
 use Rattle.em_desk.proofs.Mints.{minted-stays, place-apart, unshifted-minted, last-below, handle-index, pool-within, found-in, few-mintings}

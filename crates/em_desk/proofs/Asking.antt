@@ -1,34 +1,26 @@
 -- What every ask of an open context has in common.
-use Rattle.std.proofs.Common.{◌≡◌, ◌≢◌, ◌⊎◌, inl, inr, ℕ, suc, ◌+◌, ◌<◌, ◌≤◌, ◌==◌, Bool, true, false, ◌&&◌, [], ◌∷◌, List, length, reverse, Option, Some, None, is_some, refl, ap, sym, ◌∙◌, subst, arith, IsTrue, if◌then◌else◌}
+use Rattle.std.proofs.Common.{◌≡◌, ℕ, suc, ◌+◌, ◌<◌, ◌≤◌, ◌==◌, Bool, true, false, ◌&&◌, [], ◌∷◌, List, length, reverse, Option, Some, None, is_some, refl, ap, sym, ◌∙◌, subst, arith, IsTrue, if◌then◌else◌}
 use Rattle.em_log.specs.declared.ask.Ask.{Ask}
 use Rattle.em_log.specs.declared.ask.Reply.{Reply}
 use Rattle.em_log.specs.declared.declarations.Declarations.{Declarations}
-use Rattle.em_log.specs.declared.entry.Body.{Body}
-use Rattle.em_log.specs.declared.entry.Event.{Event}
 use Rattle.em_log.specs.declared.entry.What.{What}
-use Rattle.em_log.specs.declared.ids.EoId.{EoId}
-use Rattle.em_log.specs.declared.ids.Limits.{Limits}
-use Rattle.em_log.specs.declared.ids.QueueId.{QueueId}
 use Rattle.em_log.specs.History.{Past, entry_by}
-use Rattle.em_log.specs.Declarations.{object_of}
-use Rattle.em_log.specs.Contexts.{context, context_after, boot_ended, ends_boot, is_boot, context_object}
-use Rattle.em_log.specs.Operations.{step}
+use Rattle.em_log.specs.Contexts.{context, context_after, ends_boot}
 use Rattle.em_log.specs.Atomic.{holds}
-use Rattle.em_log.specs.Leads.{lead, scope}
+use Rattle.em_log.specs.Leads.{scope}
 use Rattle.em_log.specs.Legal.{Lead, lead_here, leads_after}
 use Rattle.em_log.specs.Lawful.{may_ask, is_declared, is_placed, due}
 use Rattle.em_log.specs.Allowance.{left, cost_of_lead}
-use Rattle.em_log.specs.Answers.{block, answer_of, object_id}
+use Rattle.em_log.specs.Answers.{block, answer_of}
 use Rattle.em_desk.specs.declared.opening.Opening.{Opening}
 use Rattle.em_desk.specs.declared.desk.Desk.TheInside.{Inside}
 use Rattle.em_desk.specs.Plain.{ArePlain}
 use Rattle.em_desk.specs.Openings.{opening_at, object_in}
 use Rattle.em_desk.specs.State.{DeskState, IsAnswered, IsSameRun}
 use Rattle.std.specs.Vec.{vec_len, vec_capacity}
-use Rattle.std.proofs.lemmas.List.{length-reverse}
 use Rattle.em_desk.specs.Stands.{state_of, Stands, IsOpening, NoContext, InBoot, InReceive, Stage, Fresh, Booting, Running, spare_of, spares}
 use Rattle.em_desk.proofs.Graphs.{no-step}
-use Rattle.em_desk.proofs.Room.{left-next, other-test, own-test, spares-stay, spares-own}
+use Rattle.em_desk.proofs.Room.{left-next, spares-stay, spares-own}
 
 -- what is said of the desk's value, said of its fields
 pub in_fields : (d : Inside) (t : DeskState) → state_of d ≡ t → (P : Declarations → Past → Type 0)

@@ -1,23 +1,22 @@
 -- What a claim gives, and what it leaves of what the desk keeps.
-use Rattle.std.proofs.Common.{◌≡◌, ◌≢◌, ◌⊎◌, inl, inr, ℕ, suc, ◌+◌, ◌<◌, ◌≤◌, ◌==◌, Bool, true, false, not, [], ◌∷◌, ◌++◌, List, length, drop, Option, Some, None, refl, ap, sym, ◌∙◌, subst, arith, IsTrue, slice_set, if◌then◌else◌}
+use Rattle.std.proofs.Common.{◌≡◌, ◌≢◌, ◌⊎◌, inl, inr, ℕ, ◌+◌, ◌<◌, ◌≤◌, ◌==◌, Bool, true, false, [], ◌∷◌, List, length, drop, Option, Some, None, refl, ap, sym, ◌∙◌, subst, arith, IsTrue, slice_set, if◌then◌else◌}
 use Rattle.std.specs.Option.{option_map, option_map_or}
 use Rattle.std.proofs.lemmas.Bool.Decides.{eqb_tells}
 use Rattle.em_log.specs.declared.ask.Ask.{Ask}
 use Rattle.em_log.specs.declared.declarations.Declarations.{Declarations}
 use Rattle.em_log.specs.declared.entry.Event.{Event}
 use Rattle.em_log.specs.declared.entry.What.{What}
-use Rattle.em_log.specs.declared.ids.EoId.{EoId}
 use Rattle.em_log.specs.declared.ids.Limits.{Limits}
 use Rattle.em_log.specs.History.{Past, entry_by, has, index_of, handle_of}
 use Rattle.em_log.specs.Declarations.{event_total}
 use Rattle.em_log.specs.Contexts.{context_object}
 use Rattle.em_log.specs.Handles as log
-use Rattle.em_log.specs.Leads.{own, lead, claimed, claimed_from, kept_again, event_with, minted_again}
-use Rattle.em_log.specs.Places.{waiting, kept}
+use Rattle.em_log.specs.Leads.{claimed, claimed_from, kept_again, event_with}
+use Rattle.em_log.specs.Places.{kept}
 use Rattle.em_log.specs.Lawful.{Asks, may_ask}
 use Rattle.em_log.specs.Allowance.{left}
 use Rattle.em_pool.specs.declared.place.Place.{Place}
-use Rattle.em_pool.specs.Steps.{Step, Minted}
+use Rattle.em_pool.specs.Steps.{Minted}
 use Rattle.em_pool.specs.Handles as pool
 use Rattle.em_pool.specs.Places.{place}
 use Rattle.em_pool.specs.State.{PoolState}
@@ -26,11 +25,11 @@ use Rattle.em_desk.specs.declared.opening.Opening.{Opening}
 use Rattle.em_desk.specs.Plain.{Claims, ArePlain}
 use Rattle.em_desk.specs.Parts.{pool_steps}
 use Rattle.em_desk.specs.Lines.{LinesState, list_at}
-use Rattle.em_desk.specs.Stands.{Keeps, IsParked, IsWaiting, IsKept, Pairs, NoneTwice, spares}
+use Rattle.em_desk.specs.Stands.{Keeps, IsParked, IsKept, Pairs, NoneTwice, spares}
 use Rattle.em_desk.proofs.Alike.{same-generation}
 use Rattle.em_desk.proofs.Asking.{may-open}
 use Rattle.em_desk.proofs.Distinct.{list-same, list-other}
-use Rattle.em_desk.proofs.Mints.{minted-stays, place-apart, unshifted-minted, last-below, handle-index, pairs-without, parked-event}
+use Rattle.em_desk.proofs.Mints.{minted-stays, place-apart, unshifted-minted, last-below, handle-index, pairs-without}
 use Rattle.em_desk.proofs.Parking.{parked-unminted, waiting-parked, pairs-map, other-minting}
 use Rattle.em_desk.proofs.Next.{IsMild, PartsStand, parts-of, Kept, keeps-next}
 
@@ -172,8 +171,8 @@ parts-claim k past p p' queues objects objects' c x i is e s f object first set 
       gone_within = s.gone_within;
       waits = λ q d lt. pairs-map _ _ _ _
           (λ y j w. let other = apart (Place.Waiting (record { 0 = q })) y.handle j (λ (e : Place.Kept (record { 0 = x }) ≡ Place.Waiting (record { 0 = q })). absurd cc) w.parked in
-              waiting-parked k past now q y j (λ h p. stays _ h j other p)
-              (other-minting y.handle c e (log.minting past y.handle) (λ same. other (same ∙ w.parked.index))) w) (s.waits q d lt);
+          waiting-parked k past now q y j (λ h p. stays _ h j other p)
+          (other-minting y.handle c e (log.minting past y.handle) (λ same. other (same ∙ w.parked.index))) w) (s.waits q d lt);
       waiting_once = s.waiting_once;
       object_lists = len ∙ s.object_lists;
       object_room = room ∙ s.object_room;
@@ -183,8 +182,10 @@ parts-claim k past p p' queues objects objects' c x i is e s f object first set 
   where
     here : list_at objects' x ≡ is
     here = list-same objects objects' x (drop 1 (list_at objects x)) set lists ∙ ap (drop 1) first
+
     elsewhere : (y : ℕ) → y ≢ x → list_at objects' y ≡ list_at objects y
     elsewhere y other = list-other objects objects' x y (drop 1 (list_at objects x)) other lists
+
     kept-here : kept k (entry_by c (claim_of (Some e)) ∷ past) x ≡ f.more
     kept-here = kept-now k past c x x e object ∙ (own (eqb_tells x x) ∙ ap (drop 1) f.kept)
       where
@@ -192,6 +193,7 @@ parts-claim k past p p' queues objects objects' c x i is e s f object first set 
             → (if x == x then drop 1 (kept k past x) else kept k past x) ≡ drop 1 (kept k past x)
         own (inl t) = rw t.0 refl
         own (inr t) = absurd (t.1 refl)
+
     by_object : ((h j : ℕ) → index_of e.handle.0 ≢ j → IsKept k past x h j → IsKept k (entry_by c (claim_of (Some e)) ∷ past) x h j)
         → ((y : ℕ) → x ≢ y → (h j : ℕ) → IsKept k past y h j → IsKept k (entry_by c (claim_of (Some e)) ∷ past) y h j) → (y : ℕ) → y < length k.running
         → (((y == x) ≡ true) × (y ≡ x)) ⊎ (((y == x) ≡ false) × (y ≢ x))
@@ -206,6 +208,7 @@ parts-claim k past p p' queues objects objects' c x i is e s f object first set 
         (sym (kept-now k past c x y e object ∙ ap (λ (b : Bool). if b then drop 1 (kept k past y) else kept k past y) t.0))
         (subst (λ js. Pairs (IsKept k (entry_by c (claim_of (Some e)) ∷ past) y) (kept k past y) js) (sym (elsewhere y t.1))
         (pairs-map _ _ _ _ (others y (λ (same : x ≡ y). t.1 (sym same))) (s.keeps y lt)))
+
     once_at : (y : ℕ) → (((y == x) ≡ true) × (y ≡ x)) ⊎ (((y == x) ≡ false) × (y ≢ x)) → NoneTwice (list_at objects' y)
     once_at y (inl t) =
         let both = subst NoneTwice first (s.kept_once x) in

@@ -1,5 +1,5 @@
 -- Lists of indices without doubles.
-use Rattle.std.proofs.Common.{◌≡◌, ◌≢◌, ◌⊎◌, inl, inr, ℕ, zero, suc, ◌+◌, ◌<◌, ◌≤◌, ◌==◌, Bool, true, false, ◌||◌, [], ◌∷◌, ◌++◌, List, length, length-append, refl, ap, sym, ◌∙◌, subst, arith, slice_set, slice_index_or, eqb}
+use Rattle.std.proofs.Common.{◌≡◌, ◌≢◌, ◌⊎◌, inl, inr, ℕ, ◌<◌, ◌≤◌, ◌==◌, Bool, true, false, ◌||◌, [], ◌∷◌, ◌++◌, List, length, refl, ap, ◌∙◌, arith, slice_set, slice_index_or, eqb}
 use Rattle.std.specs.List.{list_any, AllByRecursion, IsDistinct}
 use Rattle.std.proofs.lemmas.Bool.Decides.{eqb_tells}
 use Rattle.std.proofs.lemmas.Map.Steps.{length-le_from_distinct_below}

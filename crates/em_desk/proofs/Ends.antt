@@ -1,5 +1,5 @@
 -- What the end of a context leaves of what the desk keeps.
-use Rattle.std.proofs.Common.{◌≡◌, ◌≢◌, ◌⊎◌, inl, inr, ℕ, suc, ◌+◌, ◌<◌, ◌≤◌, ◌==◌, Bool, true, false, not, [], ◌∷◌, ◌++◌, List, length, drop, Option, Some, None, is_none, refl, ap, sym, ◌∙◌, subst, arith, IsTrue, slice_set, slice_index_or, if◌then◌else◌}
+use Rattle.std.proofs.Common.{◌≡◌, ◌≢◌, ◌⊎◌, inl, inr, ℕ, suc, ◌<◌, ◌==◌, Bool, true, false, [], ◌∷◌, List, length, drop, Option, Some, None, is_none, refl, ap, sym, ◌∙◌, subst, arith, IsTrue, slice_set, if◌then◌else◌}
 use Rattle.std.proofs.lemmas.Bool.Decides.{eqb_tells}
 use Rattle.std.proofs.lemmas.List.{get_or-set_same, get_or-set_other, length-set}
 use Rattle.em_log.specs.declared.ask.Ask.{Ask}
@@ -9,23 +9,21 @@ use Rattle.em_log.specs.declared.entry.Entry.{Entry}
 use Rattle.em_log.specs.declared.entry.What.{What}
 use Rattle.em_log.specs.declared.ids.Cells.{Cells}
 use Rattle.em_log.specs.declared.ids.Limits.{Limits}
-use Rattle.em_log.specs.declared.ids.Stamp.{Stamp}
 use Rattle.em_log.specs.History.{Past, entry_by, onto}
-use Rattle.em_log.specs.Contexts.{context, context_after, boot_ended, ends_boot, is_boot}
+use Rattle.em_log.specs.Contexts.{context, is_boot}
 use Rattle.em_log.specs.Handles as log
 use Rattle.em_log.specs.Atomic.{holds}
-use Rattle.em_log.specs.Order.{Ticket, Sent, open_ticket, let_in}
-use Rattle.em_log.specs.Arrivals.{Item, arrivals, with_items}
-use Rattle.em_log.specs.EventGroups.{open_stamp}
-use Rattle.em_log.specs.Leads.{own, lead}
-use Rattle.em_log.specs.Places.{gone, waiting, taken, kept}
-use Rattle.em_log.specs.Tails.{tail, end_tail, outs, notification}
+use Rattle.em_log.specs.Order.{Ticket, let_in}
+use Rattle.em_log.specs.Arrivals.{arrivals, with_items}
+use Rattle.em_log.specs.Leads.{lead}
+use Rattle.em_log.specs.Places.{gone, taken}
+use Rattle.em_log.specs.Tails.{tail}
 use Rattle.em_log.specs.Lawful.{Lawful, Asks, may_ask, is_placed}
 use Rattle.em_log.specs.Allowance.{left}
 use Rattle.em_log.proofs.Blocks.{block-lawful}
 use Rattle.em_pool.specs.declared.place.Place.{Place}
-use Rattle.em_pool.specs.Steps.{Step, Lost}
-use Rattle.em_pool.specs.Places.{place, can_shift}
+use Rattle.em_pool.specs.Steps.{Lost}
+use Rattle.em_pool.specs.Places.{can_shift}
 use Rattle.em_pool.specs.State.{PoolState}
 use Rattle.em_pool.specs.Stands as pools
 use Rattle.em_desk.specs.declared.opening.Opening.{Opening}
@@ -33,14 +31,12 @@ use Rattle.em_desk.specs.Plain.{Ends, ArePlain}
 use Rattle.em_desk.specs.Parts.{pool_steps}
 use Rattle.em_desk.specs.Lines.{LinesState, list_at}
 use Rattle.em_desk.specs.Openings.{opening_at}
-use Rattle.em_desk.specs.Stands.{Keeps, IsOpening, NoContext, InBoot, InReceive, Stage, Fresh, Booting, Running, IsParked, IsWaiting, Pairs, spares, spare_of}
-use Rattle.em_desk.proofs.Asking.{may-open, may-placed, spare-begun}
-use Rattle.em_desk.proofs.Graphs.{holds-none}
+use Rattle.em_desk.specs.Stands.{Keeps, IsOpening, NoContext, InBoot, InReceive, Stage, Fresh, Booting, Running, IsParked, IsWaiting, Pairs, spares}
+use Rattle.em_desk.proofs.Asking.{may-open, spare-begun}
 use Rattle.em_desk.proofs.Parking.{parked-unminted, waiting-parked, pairs-map, place-lost}
 use Rattle.em_desk.proofs.Plain.{no-ticket, no-stamp}
 use Rattle.em_desk.proofs.Room.{spares-set, own-test, other-test}
 use Rattle.em_desk.proofs.Next.{Kept}
-use Rattle.em_desk.proofs.Silent.{own-lead}
 
 abbrev pub end_of : ℕ → What
 end_of lost = What.End lost None

@@ -1,12 +1,11 @@
 -- What a free leaves of what the desk keeps.
-use Rattle.std.proofs.Common.{◌≡◌, ℕ, ◌+◌, ◌<◌, ◌≤◌, true, [], ◌∷◌, List, length, Option, Some, None, refl, ap, sym, ◌∙◌, subst, arith, IsTrue}
+use Rattle.std.proofs.Common.{◌≡◌, ℕ, ◌<◌, ◌≤◌, true, ◌∷◌, List, length, None, refl, ap, ◌∙◌, arith, IsTrue}
 use Rattle.em_log.specs.declared.ask.Ask.{Ask}
 use Rattle.em_log.specs.declared.declarations.Declarations.{Declarations}
 use Rattle.em_log.specs.declared.entry.What.{What}
 use Rattle.em_log.specs.declared.ids.Limits.{Limits}
-use Rattle.em_log.specs.History.{Past, entry_by, index_of, minted_in}
+use Rattle.em_log.specs.History.{Past, entry_by, minted_in}
 use Rattle.em_log.specs.Handles as log
-use Rattle.em_log.specs.Leads.{refusal}
 use Rattle.em_log.specs.Lawful.{Asks, may_ask}
 use Rattle.em_log.specs.Allowance.{left}
 use Rattle.em_pool.specs.declared.place.Place.{Place}
@@ -18,8 +17,8 @@ use Rattle.em_pool.specs.Stands as pools
 use Rattle.em_desk.specs.declared.opening.Opening.{Opening}
 use Rattle.em_desk.specs.Plain.{Frees}
 use Rattle.em_desk.specs.Parts.{pool_steps}
-use Rattle.em_desk.specs.Lines.{LinesState, list_at}
-use Rattle.em_desk.specs.Stands.{Keeps, IsParked, IsWaiting, spares}
+use Rattle.em_desk.specs.Lines.{LinesState}
+use Rattle.em_desk.specs.Stands.{Keeps, IsParked, spares}
 use Rattle.em_desk.proofs.Asking.{may-open}
 use Rattle.em_desk.proofs.Parking.{parked-unminted, waiting-parked, pairs-map, place-spent}
 use Rattle.em_desk.proofs.Next.{IsMild, PartsStand, parts-of, Kept, keeps-next}

@@ -1,18 +1,17 @@
 -- What stands under each number of a simple graph, in a history of plain entries.
-use Rattle.std.proofs.Common.{◌≡◌, ℕ, zero, suc, ◌+◌, ◌<◌, ◌≤◌, ◌==◌, nat_le, Bool, true, false, not, ◌&&◌, ◌||◌, [], ◌∷◌, List, length, Option, Some, None, is_none, refl, ap, sym, ◌∙◌, subst, arith, slice_get, if◌then◌else◌, IsTrue}
+use Rattle.std.proofs.Common.{◌≡◌, ℕ, zero, suc, ◌+◌, ◌<◌, ◌≤◌, Bool, true, false, ◌&&◌, [], ◌∷◌, List, length, Option, Some, None, refl, ap, ◌∙◌, subst, arith, slice_get}
 use Rattle.std.specs.List.{AllByRecursion, list_all}
-use Rattle.std.specs.Option.{option_map, option_map_or, option_and_then}
+use Rattle.std.specs.Option.{option_map_or, option_and_then}
 use Rattle.em_log.specs.declared.declarations.Declarations.{Declarations}
 use Rattle.em_log.specs.declared.declarations.QueueShape.{QueueShape}
 use Rattle.em_log.specs.declared.ids.EoId.{EoId}
 use Rattle.em_log.specs.declared.ids.EoState.{EoState}
-use Rattle.em_log.specs.declared.ids.Kind.{Kind}
 use Rattle.em_log.specs.History.{Past}
-use Rattle.em_log.specs.Declarations.{kind_of, object_of, group_of, rank_of, atomic_of, is_local, is_output, is_served, is_atomic, is_ordered, all_cores, below, numbers_from}
-use Rattle.em_log.specs.States.{state, flag, mask, change, effective, closed, closed_by, first_state, is_running}
-use Rattle.em_log.specs.Atomic.{holds, received_atomic, if_holder}
+use Rattle.em_log.specs.Declarations.{kind_of, rank_of, atomic_of, is_local, is_output, is_served, is_atomic, is_ordered, all_cores, below, numbers_from}
+use Rattle.em_log.specs.States.{state, flag, closed, first_state}
+use Rattle.em_log.specs.Atomic.{holds, if_holder}
 use Rattle.em_log.specs.Contexts.{receives_from}
-use Rattle.em_log.specs.Operations.{step, operations}
+use Rattle.em_log.specs.Operations.{step}
 use Rattle.em_log.specs.Eligible.{has_core, runs, is_in_group, is_unheld}
 use Rattle.em_desk.specs.Simple.{IsSimple, IsParallel, parallel_queue}
 use Rattle.em_desk.specs.Plain.{ArePlain}

@@ -1,5 +1,5 @@
 -- What a keep leaves of what the desk keeps.
-use Rattle.std.proofs.Common.{◌≡◌, ◌≢◌, ◌⊎◌, inl, inr, ℕ, suc, ◌+◌, ◌<◌, ◌≤◌, ◌==◌, Bool, true, false, not, [], ◌∷◌, ◌++◌, List, length, length-append, Option, Some, None, refl, ap, sym, ◌∙◌, subst, arith, IsTrue, slice_set, if◌then◌else◌}
+use Rattle.std.proofs.Common.{◌≡◌, ◌≢◌, ◌⊎◌, inl, inr, ℕ, ◌<◌, ◌≤◌, ◌==◌, Bool, true, false, not, [], ◌∷◌, ◌++◌, List, length, length-append, Option, Some, None, refl, ap, sym, ◌∙◌, subst, arith, IsTrue, slice_set, if◌then◌else◌}
 use Rattle.std.proofs.lemmas.Bool.Decides.{eqb_tells}
 use Rattle.em_log.specs.declared.ask.Ask.{Ask}
 use Rattle.em_log.specs.declared.declarations.Declarations.{Declarations}
@@ -7,29 +7,28 @@ use Rattle.em_log.specs.declared.entry.Body.{Body}
 use Rattle.em_log.specs.declared.entry.What.{What}
 use Rattle.em_log.specs.declared.ids.EoId.{EoId}
 use Rattle.em_log.specs.declared.ids.Limits.{Limits}
-use Rattle.em_log.specs.History.{Past, entry_by, has, index_of}
-use Rattle.em_log.specs.Declarations.{event_total, object_of, is_number}
+use Rattle.em_log.specs.History.{Past, entry_by, index_of}
+use Rattle.em_log.specs.Declarations.{event_total, object_of}
 use Rattle.em_log.specs.Contexts.{context, context_object, is_boot}
 use Rattle.em_log.specs.Handles as log
-use Rattle.em_log.specs.Leads.{refusal, own, lead}
-use Rattle.em_log.specs.Places.{waiting, kept}
+use Rattle.em_log.specs.Places.{kept}
 use Rattle.em_log.specs.Lawful.{Asks, may_ask}
 use Rattle.em_log.specs.Allowance.{left}
 use Rattle.em_log.specs.Answers.{object_id}
 use Rattle.em_pool.specs.declared.place.Place.{Place}
 use Rattle.em_pool.specs.declared.place.Spend.{Spend}
-use Rattle.em_pool.specs.Steps.{Step, Spent}
+use Rattle.em_pool.specs.Steps.{Spent}
 use Rattle.em_pool.specs.Places.{place, can_shift}
 use Rattle.em_pool.specs.State.{PoolState}
 use Rattle.em_pool.specs.Stands as pools
 use Rattle.em_desk.specs.declared.opening.Opening.{Opening}
 use Rattle.em_desk.specs.Simple.{IsSimple}
-use Rattle.em_desk.specs.Plain.{Keeps as KeepsPlain, ArePlain}
+use Rattle.em_desk.specs.Plain.{Keeps as KeepsPlain}
 use Rattle.em_desk.specs.Parts.{pool_steps}
 use Rattle.em_desk.specs.Lines.{LinesState, list_at}
-use Rattle.em_desk.specs.Openings.{opening_at, object_in}
-use Rattle.em_desk.specs.Stands.{Keeps, IsOpening, NoContext, InBoot, InReceive, IsParked, IsWaiting, IsKept, Pairs, NoneTwice, spares}
-use Rattle.em_desk.proofs.Asking.{may-open, may-placed}
+use Rattle.em_desk.specs.Openings.{opening_at}
+use Rattle.em_desk.specs.Stands.{Keeps, IsOpening, NoContext, InBoot, InReceive, IsParked, IsKept, Pairs, NoneTwice, spares}
+use Rattle.em_desk.proofs.Asking.{may-open}
 use Rattle.em_desk.proofs.Distinct.{list-same, list-other, not-in, once-more, few}
 use Rattle.em_desk.proofs.Frees.{spent-stays}
 use Rattle.em_desk.proofs.Graphs.{QueueAt, Absent, Present, queue-at}

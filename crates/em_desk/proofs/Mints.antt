@@ -1,6 +1,6 @@
 -- What an entry that mints a handle leaves of parked events.
-use Rattle.std.proofs.Common.{◌≡◌, ◌≢◌, ◌⊎◌, inl, inr, ℕ, zero, suc, ◌+◌, ◌*◌, ◌%◌, ◌^◌, ◌<◌, ◌≤◌, ◌==◌, Bool, true, false, [], ◌∷◌, List, length, take, find, Option, Some, None, is_some, refl, ap, sym, ◌∙◌, subst, arith, if◌then◌else◌}
-use Rattle.std.specs.Option.{option_map, option_and_then, option_map_or}
+use Rattle.std.proofs.Common.{◌≡◌, ◌≢◌, ◌⊎◌, inl, inr, ℕ, zero, suc, ◌+◌, ◌<◌, ◌≤◌, ◌==◌, Bool, true, false, [], ◌∷◌, List, length, take, find, Option, Some, None, refl, ap, ◌∙◌, subst, arith, if◌then◌else◌}
+use Rattle.std.specs.Option.{option_map, option_and_then}
 use Rattle.std.proofs.lemmas.Bool.Decides.{eqb_tells}
 use Rattle.em_log.specs.declared.declarations.Declarations.{Declarations}
 use Rattle.em_log.specs.declared.declarations.PoolShape.{PoolShape}
@@ -12,7 +12,7 @@ use Rattle.em_log.specs.Handles as log
 use Rattle.em_log.specs.Arrivals.{Item}
 use Rattle.em_log.specs.Places.{waiting}
 use Rattle.em_pool.specs.declared.place.Place.{Place}
-use Rattle.em_pool.specs.Steps.{Step, Minted, mintings, mintings_after}
+use Rattle.em_pool.specs.Steps.{Step, Minted, mintings}
 use Rattle.em_pool.specs.Handles as pool
 use Rattle.em_pool.specs.Places.{shift, place, events_of}
 use Rattle.em_desk.specs.Plain.{ArePlain}
@@ -21,7 +21,7 @@ use Rattle.em_desk.specs.Stands.{IsParked, Pairs}
 use Rattle.em_desk.proofs.Alike.{same-minting, same-last}
 use Rattle.em_desk.proofs.Parking.{parked-minted, place-minted}
 use Rattle.em_desk.proofs.Plain.{by_plain}
-use Rattle.em_desk.proofs.Room.{own-test, other-test}
+use Rattle.em_desk.proofs.Room.{own-test}
 
 -- how many handles were minted
 

@@ -1,5 +1,5 @@
 -- What an entry of an open context leaves of what the desk keeps, given what it does to the parts.
-use Rattle.std.proofs.Common.{◌≡◌, ℕ, suc, ◌+◌, ◌*◌, ◌<◌, ◌≤◌, ◌==◌, Bool, true, false, [], ◌∷◌, List, length, Option, Some, None, refl, ap, sym, ◌∙◌, subst, arith, if◌then◌else◌}
+use Rattle.std.proofs.Common.{◌≡◌, ℕ, ◌+◌, ◌<◌, ◌≤◌, ◌==◌, Bool, true, false, [], ◌∷◌, List, length, Option, Some, None, ◌∙◌, subst, arith, if◌then◌else◌}
 use Rattle.em_log.specs.declared.declarations.Declarations.{Declarations}
 use Rattle.em_log.specs.declared.entry.Entry.{Entry}
 use Rattle.em_log.specs.declared.entry.What.{What}
@@ -14,7 +14,6 @@ use Rattle.em_log.specs.Tails.{tail}
 use Rattle.em_log.specs.Legal.{Lead, lead_here, leads_after}
 use Rattle.em_log.specs.Lawful.{Lawful, Begins, due}
 use Rattle.em_log.specs.Allowance.{left, cost_of_lead}
-use Rattle.em_log.specs.Answers.{block}
 use Rattle.em_log.proofs.Blocks.{block-lawful}
 use Rattle.em_pool.specs.Places.{shift}
 use Rattle.em_pool.specs.State.{PoolState}
@@ -24,7 +23,7 @@ use Rattle.em_desk.specs.Plain.{IsPlain}
 use Rattle.em_desk.specs.Parts.{pool_steps}
 use Rattle.em_desk.specs.Lines.{LinesState, list_at}
 use Rattle.em_desk.specs.Openings.{opening_at}
-use Rattle.em_desk.specs.Stands.{Keeps, IsOpening, IsWaiting, IsKept, Pairs, NoneTwice, spares}
+use Rattle.em_desk.specs.Stands.{Keeps, IsWaiting, IsKept, Pairs, NoneTwice, spares}
 use Rattle.em_desk.proofs.Asking.{opening-stays, stage-stays, spares-next}
 
 -- an entry that begins and ends no context, and takes and starts nothing

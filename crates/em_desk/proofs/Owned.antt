@@ -1,22 +1,20 @@
 -- What is known of a handle that a core may use.
-use Rattle.std.proofs.Common.{◌≡◌, ◌≢◌, ◌⊎◌, inl, inr, ℕ, zero, suc, ◌+◌, ◌*◌, ◌/◌, ◌%◌, ◌<◌, ◌≤◌, ◌==◌, nat_le, Bool, true, false, ◌&&◌, [], ◌∷◌, ◌++◌, List, length, count_by, Option, Some, None, is_some, refl, ap, sym, ◌∙◌, subst, arith, if◌then◌else◌, unwrap_or}
+use Rattle.std.proofs.Common.{◌≡◌, ◌≢◌, ◌⊎◌, inl, inr, ℕ, ◌/◌, ◌<◌, ◌≤◌, ◌==◌, nat_le, Bool, true, false, ◌&&◌, [], ◌∷◌, ◌++◌, List, length, count_by, Option, Some, None, is_some, refl, ap, sym, ◌∙◌, subst, arith, if◌then◌else◌, unwrap_or}
 use Rattle.std.specs.Option.{option_or}
-use Rattle.std.specs.List.{list_any, filter}
+use Rattle.std.specs.List.{filter}
 use Rattle.std.proofs.lemmas.List.Sums.{length-filter}
 use Rattle.std.proofs.lemmas.Bool.Decides.{eqb_tells}
 use Rattle.em_log.specs.declared.declarations.Declarations.{Declarations}
-use Rattle.em_log.specs.declared.entry.Event.{Event}
-use Rattle.em_log.specs.declared.fault.Fault.{Fault}
 use Rattle.em_log.specs.declared.ids.Limits.{Limits}
 use Rattle.em_log.specs.History.{Past, has, without, index_of, handle_of}
 use Rattle.em_log.specs.Declarations.{event_total}
 use Rattle.em_log.specs.Handles as log
 use Rattle.em_log.specs.Lawful.{AllAllowed}
 use Rattle.em_pool.specs.declared.place.Place.{Place}
-use Rattle.em_pool.specs.Steps.{Step, Minted, Spent, Shifted, Lost, held, held_after}
+use Rattle.em_pool.specs.Steps.{Step, Minted, Spent, Shifted, Lost, held}
 use Rattle.em_pool.specs.Handles as pool
 use Rattle.em_pool.specs.Places.{shift, place, place_by, place_of}
-use Rattle.em_pool.specs.State.{PoolState, generation_at, last_handle_in, generation_of, is_last, is_held_by, place_at, holds}
+use Rattle.em_pool.specs.State.{PoolState, generation_at, last_handle_in, generation_of, holds}
 use Rattle.em_pool.specs.Stands as pools
 use Rattle.em_desk.specs.Plain.{ArePlain}
 use Rattle.em_desk.specs.Parts.{pool_steps}

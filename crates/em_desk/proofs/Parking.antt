@@ -1,20 +1,19 @@
 -- Parked events stay where they are.
-use Rattle.std.proofs.Common.{◌≡◌, ◌≢◌, ◌⊎◌, inl, inr, ℕ, zero, suc, ◌+◌, ◌<◌, ◌≤◌, ◌==◌, Bool, true, false, [], ◌∷◌, ◌++◌, List, length, Option, Some, None, refl, ap, sym, ◌∙◌, subst, arith, if◌then◌else◌, IsTrue, unwrap_or}
+use Rattle.std.proofs.Common.{◌≡◌, ◌≢◌, ◌⊎◌, inl, inr, ℕ, ◌==◌, true, false, [], ◌∷◌, ◌++◌, List, Option, Some, None, refl, ap, sym, ◌∙◌, if◌then◌else◌}
 use Rattle.std.specs.Option.{option_or}
 use Rattle.std.proofs.lemmas.Bool.Decides.{eqb_tells}
 use Rattle.em_log.specs.declared.declarations.Declarations.{Declarations}
-use Rattle.em_log.specs.declared.entry.Entry.{Entry}
 use Rattle.em_log.specs.declared.entry.Event.{Event}
 use Rattle.em_log.specs.declared.entry.What.{What}
 use Rattle.em_log.specs.History.{Past, entry_by, index_of, minted_in}
 use Rattle.em_log.specs.Handles as log
 use Rattle.em_log.specs.Arrivals.{Item, item_of}
 use Rattle.em_pool.specs.declared.place.Place.{Place}
-use Rattle.em_pool.specs.Steps.{Step, Minted, Spent, Shifted, Lost, minter, minted_in as minted_in_step}
+use Rattle.em_pool.specs.Steps.{Step, Minted, Spent, Lost, minter, minted_in as minted_in_step}
 use Rattle.em_pool.specs.Handles as pool
-use Rattle.em_pool.specs.Places.{shift, place, place_by, place_of, can_shift, is_free}
+use Rattle.em_pool.specs.Places.{shift, place, place_by, place_of, can_shift}
 use Rattle.em_desk.specs.Parts.{pool_steps}
-use Rattle.em_desk.specs.Stands.{IsParked, IsWaiting, IsKept, Pairs}
+use Rattle.em_desk.specs.Stands.{IsParked, IsWaiting, Pairs}
 use Rattle.em_desk.proofs.Room.{other-test}
 
 -- on the steps of the pools

@@ -1,23 +1,20 @@
 -- A handle that is sent or kept parks its event.
-use Rattle.std.proofs.Common.{◌≡◌, ◌≢◌, ℕ, suc, ◌+◌, ◌<◌, ◌≤◌, ◌==◌, Bool, true, false, not, ◌&&◌, ◌||◌, [], ◌∷◌, ◌++◌, List, length, length-append, drop, Option, Some, None, is_some, refl, ap, sym, ◌∙◌, subst, arith, if◌then◌else◌, IsTrue, unwrap_or}
-use Rattle.std.specs.Option.{option_or}
+use Rattle.std.proofs.Common.{◌≡◌, ◌≢◌, ℕ, ◌≤◌, ◌==◌, Bool, true, false, ◌&&◌, [], ◌∷◌, ◌++◌, List, length, length-append, drop, Option, Some, None, is_some, refl, ap, ◌∙◌, arith, if◌then◌else◌}
 use Rattle.std.proofs.lemmas.List.{drop-append-le}
 use Rattle.em_log.specs.declared.declarations.Declarations.{Declarations}
 use Rattle.em_log.specs.declared.entry.What.{What}
 use Rattle.em_log.specs.declared.ids.QueueId.{QueueId}
-use Rattle.em_log.specs.History.{Past, entry_by, has, index_of}
-use Rattle.em_log.specs.Declarations.{event_total, kind_of, is_local}
+use Rattle.em_log.specs.History.{Past, entry_by, index_of}
 use Rattle.em_log.specs.Handles as log
-use Rattle.em_log.specs.Arrivals.{Item, item_of, arrivals, is_for}
+use Rattle.em_log.specs.Arrivals.{Item, arrivals}
 use Rattle.em_log.specs.Places.{gone, waiting}
-use Rattle.em_pool.specs.declared.place.Place.{Place}
 use Rattle.em_pool.specs.declared.place.Spend.{Spend}
 use Rattle.em_pool.specs.Steps.{Step, Spent}
 use Rattle.em_pool.specs.Handles as pool
-use Rattle.em_pool.specs.Places.{shift, place, place_by, place_of, can_shift}
+use Rattle.em_pool.specs.Places.{shift, place, place_of}
 use Rattle.em_desk.specs.Simple.{IsSimple}
 use Rattle.em_desk.specs.Parts.{pool_steps}
-use Rattle.em_desk.specs.Stands.{IsParked, IsWaiting, IsKept}
+use Rattle.em_desk.specs.Stands.{IsParked}
 use Rattle.em_desk.proofs.Graphs.{not-local}
 use Rattle.em_desk.proofs.Owned.{IsOwned}
 use Rattle.em_desk.proofs.Room.{own-test, other-test}

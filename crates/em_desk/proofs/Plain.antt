@@ -1,14 +1,12 @@
 -- What stays as it was at first in a history of plain entries.
-use Rattle.std.proofs.Common.{◌≡◌, ℕ, ◌==◌, Bool, true, false, [], ◌∷◌, List, Option, Some, None, refl, ap, sym, ◌∙◌, if◌then◌else◌}
+use Rattle.std.proofs.Common.{◌≡◌, ℕ, ◌==◌, Bool, true, false, [], ◌∷◌, Option, None, refl, ◌∙◌, if◌then◌else◌}
 use Rattle.em_log.specs.declared.declarations.Declarations.{Declarations}
 use Rattle.em_log.specs.declared.entry.Body.{Body}
-use Rattle.em_log.specs.declared.entry.Entry.{Entry}
 use Rattle.em_log.specs.declared.entry.Event.{Event}
 use Rattle.em_log.specs.declared.entry.What.{What}
 use Rattle.em_log.specs.declared.fault.Call.{Call}
 use Rattle.em_log.specs.declared.fault.Fault.{Fault}
 use Rattle.em_log.specs.declared.ids.EoId.{EoId}
-use Rattle.em_log.specs.declared.ids.EoState.{EoState}
 use Rattle.em_log.specs.declared.ids.Handle.{Handle}
 use Rattle.em_log.specs.declared.ids.PoolId.{PoolId}
 use Rattle.em_log.specs.declared.ids.QueueId.{QueueId}

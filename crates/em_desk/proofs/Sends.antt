@@ -1,5 +1,5 @@
 -- What a send leaves of what the desk keeps.
-use Rattle.std.proofs.Common.{◌≡◌, ◌≢◌, ◌⊎◌, inl, inr, ℕ, suc, ◌+◌, ◌<◌, ◌≤◌, ◌==◌, nat_lt, Bool, true, false, ◌&&◌, [], ◌∷◌, ◌++◌, List, length, length-append, Option, Some, None, refl, ap, sym, ◌∙◌, subst, arith, IsTrue, slice_set}
+use Rattle.std.proofs.Common.{◌≡◌, ◌≢◌, ◌⊎◌, inl, inr, ℕ, ◌<◌, ◌≤◌, ◌==◌, nat_lt, Bool, true, false, ◌&&◌, [], ◌∷◌, ◌++◌, List, length, length-append, Option, Some, None, refl, ap, sym, ◌∙◌, subst, arith, IsTrue, slice_set}
 use Rattle.std.specs.Option.{option_or, option_map}
 use Rattle.std.proofs.lemmas.Bool.Decides.{eqb_tells}
 use borrow.Author.Tests.{ltb-true}
@@ -9,18 +9,18 @@ use Rattle.em_log.specs.declared.entry.What.{What}
 use Rattle.em_log.specs.declared.fault.Fault.{Fault}
 use Rattle.em_log.specs.declared.ids.Limits.{Limits}
 use Rattle.em_log.specs.declared.ids.QueueId.{QueueId}
-use Rattle.em_log.specs.History.{Past, entry_by, entries_by, has, index_of}
-use Rattle.em_log.specs.Declarations.{event_total, kind_of, is_output}
+use Rattle.em_log.specs.History.{Past, entry_by, index_of}
+use Rattle.em_log.specs.Declarations.{event_total}
 use Rattle.em_log.specs.Handles as log
-use Rattle.em_log.specs.Leads.{refusal, own, lead, closed_fault, open_number}
-use Rattle.em_log.specs.Order.{Ticket, open_ticket}
-use Rattle.em_log.specs.Places.{waiting, kept}
-use Rattle.em_log.specs.Tails.{tail, outs}
+use Rattle.em_log.specs.Leads.{refusal, own, lead}
+use Rattle.em_log.specs.Order.{Ticket}
+use Rattle.em_log.specs.Places.{waiting}
+use Rattle.em_log.specs.Tails.{tail}
 use Rattle.em_log.specs.Lawful.{Asks, may_ask}
 use Rattle.em_log.specs.Allowance.{left}
 use Rattle.em_pool.specs.declared.place.Place.{Place}
 use Rattle.em_pool.specs.declared.place.Spend.{Spend}
-use Rattle.em_pool.specs.Steps.{Step, Spent}
+use Rattle.em_pool.specs.Steps.{Spent}
 use Rattle.em_pool.specs.Places.{place, can_shift}
 use Rattle.em_pool.specs.State.{PoolState}
 use Rattle.em_pool.specs.Stands as pools

@@ -1,5 +1,5 @@
 -- Entries that change no part: a note of a value, and a fault.
-use Rattle.std.proofs.Common.{◌≡◌, ℕ, ◌+◌, ◌<◌, ◌≤◌, [], ◌∷◌, List, Option, Some, None, refl, ap, sym, ◌∙◌, subst, arith, IsTrue}
+use Rattle.std.proofs.Common.{◌≡◌, ℕ, ◌<◌, ◌≤◌, ◌∷◌, List, Option, Some, None, refl, ap, sym, arith, IsTrue}
 use Rattle.em_log.specs.declared.ask.Ask.{Ask}
 use Rattle.em_log.specs.declared.declarations.Declarations.{Declarations}
 use Rattle.em_log.specs.declared.entry.What.{What}
@@ -15,8 +15,8 @@ use Rattle.em_pool.specs.declared.place.Place.{Place}
 use Rattle.em_pool.specs.State.{PoolState}
 use Rattle.em_desk.specs.declared.opening.Opening.{Opening}
 use Rattle.em_desk.specs.Plain.{Says, Refuses}
-use Rattle.em_desk.specs.Lines.{LinesState, list_at}
-use Rattle.em_desk.specs.Stands.{Keeps, IsWaiting, IsParked, spares}
+use Rattle.em_desk.specs.Lines.{LinesState}
+use Rattle.em_desk.specs.Stands.{Keeps, IsParked, spares}
 use Rattle.em_desk.proofs.Asking.{may-open}
 use Rattle.em_desk.proofs.Parking.{parked-unminted, waiting-parked, pairs-map}
 use Rattle.em_desk.proofs.Next.{IsMild, PartsStand, parts-of, Kept, keeps-next}

@@ -1,30 +1,24 @@
 -- The spendings of a history are those of its steps of the pools, and so are the rule of a word and the free events.
-use Rattle.std.proofs.Common.{◌≡◌, ◌≢◌, ◌⊎◌, inl, inr, ℕ, suc, ◌==◌, Bool, true, false, not, ◌&&◌, ◌||◌, [], ◌∷◌, ◌++◌, List, length, take, Option, Some, None, is_some, is_none, find, refl, ap, sym, ◌∙◌, subst, if◌then◌else◌}
+use Rattle.std.proofs.Common.{◌≡◌, ℕ, ◌==◌, Bool, true, false, [], ◌∷◌, List, length, take, Option, Some, None, refl, ap, sym, ◌∙◌, if◌then◌else◌}
 use Rattle.std.specs.Option.{option_or, option_map_or}
-use Rattle.std.proofs.lemmas.Bool.Decides.{eqb_tells}
 use Rattle.em_log.specs.declared.declarations.Declarations.{Declarations}
-use Rattle.em_log.specs.declared.entry.Body.{Body}
-use Rattle.em_log.specs.declared.entry.Entry.{Entry}
 use Rattle.em_log.specs.declared.entry.Event.{Event}
 use Rattle.em_log.specs.declared.entry.What.{What}
-use Rattle.em_log.specs.declared.fault.Fault.{Fault}
 use Rattle.em_log.specs.declared.ids.Handle.{Handle}
 use Rattle.em_log.specs.declared.ids.Limits.{Limits}
 use Rattle.em_log.specs.declared.ids.QueueId.{QueueId}
-use Rattle.em_log.specs.History.{Past, names, has, entry_by}
+use Rattle.em_log.specs.History.{Past, has, entry_by}
 use Rattle.em_log.specs.Handles as log
 use Rattle.em_log.specs.Arrivals.{Item}
 use Rattle.em_log.specs.Places as logged
 use Rattle.em_log.specs.Lawful.{AllAllowed}
-use Rattle.em_log.specs.Order.{enters, ticket_of_send}
-use Rattle.em_pool.specs.declared.place.Place.{Place}
 use Rattle.em_pool.specs.declared.place.Spend.{Spend}
-use Rattle.em_pool.specs.Steps.{Step, Minted, Spent, Shifted, Lost, held}
+use Rattle.em_pool.specs.Steps.{Step, held}
 use Rattle.em_pool.specs.Handles as pool
 use Rattle.em_pool.specs.Places as places
 use Rattle.em_desk.specs.Simple.{IsSimple}
 use Rattle.em_desk.specs.Plain.{IsPlain, ArePlain}
-use Rattle.em_desk.specs.Parts.{pool_steps, pool_after, taken_steps, minted_steps, sending}
+use Rattle.em_desk.specs.Parts.{pool_steps, pool_after, taken_steps, minted_steps}
 use Rattle.em_desk.proofs.Plain.{by_plain}
 use Rattle.em_desk.proofs.FirstFree.{find-same}
 use Rattle.em_desk.proofs.Graphs.{not-output}

@@ -1,5 +1,5 @@
 -- The graphs that the desk serves today, and the limits of a run.
-use Rattle.std.specs.Prelude.{ℕ, ◌≡◌, ◌≤◌, ◌<◌, true, [], ◌∷◌, List, length, Some, None}
+use Rattle.std.specs.Prelude.{ℕ, ◌≡◌, ◌≤◌, ◌<◌, true, [], length, Some, None}
 use Rattle.std.specs.List.{AllByRecursion}
 use Rattle.em_log.specs.declared.declarations.Declarations.{Declarations}
 use Rattle.em_log.specs.declared.declarations.QueueShape.{QueueShape}

@@ -1,20 +1,20 @@
-use Rattle.std.proofs.Common.{ℕ, ◌≡◌, ◌<◌, ◌+◌, ◌≤◌, [], ◌∷◌, List, reverse, length, IsTrue, Option, Some, None, Ok, Err, ap, ◌∙◌, arith, refl, sym, subst}
+use Rattle.std.proofs.Common.{◌≡◌, ◌<◌, ◌≤◌, ◌∷◌, reverse, length, IsTrue, Some, None, ap, ◌∙◌, arith, refl, sym, subst}
 use Rattle.em_log.specs.declared.ask.Ask.{Ask}
 use Rattle.em_log.specs.declared.entry.Event.{Event}
 use Rattle.em_log.specs.declared.entry.What.{What}
 use Rattle.em_log.specs.declared.fault.Call.{Call}
 use Rattle.em_log.specs.declared.ids.Handle.{Handle}
-use Rattle.em_log.specs.History.{Past, entry_by}
+use Rattle.em_log.specs.History.{entry_by}
 use Rattle.em_log.specs.Leads.{lead, scope, alloc_refusal as refusal_of, allocated, event_with}
 use Rattle.em_log.specs.Lawful.{may_ask}
 use Rattle.em_log.specs.Allowance.{left}
 use Rattle.em_pool.specs.Places.{alloc_refusal, alloc_handle}
-use Rattle.em_pool.specs.Steps.{Step, Minted}
+use Rattle.em_pool.specs.Steps.{Minted}
 use Rattle.em_pool.specs.State.{PoolState}
 use Rattle.em_pool.specs.Stands as pools
 use Rattle.em_desk.proofs.Newest.{appended}
 use Rattle.em_desk.proofs.Asking.{in_fields, of_fields, answered, has-room, has-spare}
-use Rattle.em_desk.proofs.Refusing.{steps_of, refused-by, refused-lead}
+use Rattle.em_desk.proofs.Refusing.{steps_of, refused-lead}
 use Rattle.em_desk.proofs.Silent.{own-lead}
 use Rattle.em_desk.proofs.Allocs.{alloc-keeps, same-refusal, same-handle, ok-handle, err-fault, can-mint}
 use Rattle.em_desk.proofs.Next.{Kept}

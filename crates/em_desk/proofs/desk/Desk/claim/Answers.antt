@@ -1,19 +1,17 @@
-use Rattle.std.proofs.Common.{ℕ, ◌≡◌, ◌<◌, ◌+◌, ◌≤◌, true, not, [], ◌∷◌, List, drop, reverse, length, IsTrue, Option, Some, None, ap, ◌∙◌, arith, refl, sym, subst, slice_set}
+use Rattle.std.proofs.Common.{ℕ, ◌≡◌, ◌<◌, ◌≤◌, [], ◌∷◌, List, drop, reverse, length, IsTrue, Some, None, ap, ◌∙◌, arith, sym, subst, slice_set}
 use Rattle.std.proofs.lemmas.List.{length-set}
 use Rattle.em_log.specs.declared.ask.Ask.{Ask}
 use Rattle.em_log.specs.declared.entry.Event.{Event}
-use Rattle.em_log.specs.declared.entry.What.{What}
 use Rattle.em_log.specs.declared.ids.EoId.{EoId}
-use Rattle.em_log.specs.History.{Past, entry_by}
+use Rattle.em_log.specs.History.{entry_by}
 use Rattle.em_log.specs.Leads.{lead, claimed}
 use Rattle.em_log.specs.Lawful.{may_ask}
 use Rattle.em_log.specs.Allowance.{left}
-use Rattle.em_pool.specs.declared.place.Place.{Place}
-use Rattle.em_pool.specs.Steps.{Step, Minted}
-use Rattle.em_pool.specs.Places.{place, is_mintable}
-use Rattle.em_pool.specs.State.{PoolState, place_at}
+use Rattle.em_pool.specs.Steps.{Minted}
+use Rattle.em_pool.specs.Places.{is_mintable}
+use Rattle.em_pool.specs.State.{PoolState}
 use Rattle.em_pool.specs.Stands as pools
-use Rattle.em_desk.specs.Lines.{LinesState, list_at}
+use Rattle.em_desk.specs.Lines.{list_at}
 use Rattle.em_desk.specs.Openings.{opening_at, receiver_in}
 use Rattle.em_desk.specs.State.{DeskState}
 use Rattle.em_desk.specs.Stands.{Stands, state_of, spares}

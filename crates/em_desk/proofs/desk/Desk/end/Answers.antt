@@ -1,13 +1,12 @@
-use Rattle.std.proofs.Common.{ℕ, ◌≡◌, ◌<◌, ◌+◌, ◌≤◌, [], ◌∷◌, reverse, length, IsTrue, Option, Some, None, ap, ◌∙◌, arith, refl, sym, subst, slice_set}
+use Rattle.std.proofs.Common.{◌≡◌, ◌<◌, ◌∷◌, reverse, length, IsTrue, Option, None, ap, ◌∙◌, arith, sym, subst, slice_set}
 use Rattle.em_log.specs.declared.ask.Ask.{Ask}
 use Rattle.em_log.specs.declared.entry.What.{What}
 use Rattle.em_log.specs.declared.ids.Cells.{Cells}
-use Rattle.em_log.specs.History.{Past, entry_by, onto}
+use Rattle.em_log.specs.History.{entry_by, onto}
 use Rattle.em_log.specs.Handles as log
 use Rattle.em_log.specs.Leads.{lead}
 use Rattle.em_log.specs.Lawful.{may_ask}
-use Rattle.em_log.specs.Contexts.{context}
-use Rattle.em_pool.specs.Steps.{Step, Lost, held}
+use Rattle.em_pool.specs.Steps.{Lost}
 use Rattle.em_pool.specs.State.{PoolState}
 use Rattle.em_pool.specs.Stands as pools
 use Rattle.em_desk.specs.declared.opening.Opening.{Opening}

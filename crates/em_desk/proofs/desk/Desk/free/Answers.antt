@@ -1,14 +1,14 @@
-use Rattle.std.proofs.Common.{ℕ, ◌≡◌, ◌<◌, ◌+◌, ◌≤◌, ◌∷◌, reverse, length, IsTrue, Some, None, ap, ◌∙◌, arith, refl, sym, subst}
+use Rattle.std.proofs.Common.{◌≡◌, ◌<◌, ◌≤◌, ◌∷◌, reverse, length, IsTrue, Some, None, ap, ◌∙◌, arith, refl, subst}
 use Rattle.em_log.specs.declared.ask.Ask.{Ask}
 use Rattle.em_log.specs.declared.entry.What.{What}
 use Rattle.em_log.specs.declared.fault.Call.{Call}
-use Rattle.em_log.specs.History.{Past, entry_by}
+use Rattle.em_log.specs.History.{entry_by}
 use Rattle.em_log.specs.Handles.{rule}
 use Rattle.em_log.specs.Leads.{lead}
 use Rattle.em_log.specs.Lawful.{may_ask}
 use Rattle.em_log.specs.Allowance.{left}
 use Rattle.em_pool.specs.declared.place.Spend.{Spend}
-use Rattle.em_pool.specs.Steps.{Step, Spent}
+use Rattle.em_pool.specs.Steps.{Spent}
 use Rattle.em_pool.specs.State.{PoolState}
 use Rattle.em_pool.specs.Stands as pools
 use Rattle.em_desk.proofs.Newest.{appended}

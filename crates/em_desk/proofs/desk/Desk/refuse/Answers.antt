@@ -1,9 +1,8 @@
-use Rattle.std.proofs.Common.{ℕ, ◌≡◌, ◌<◌, ◌+◌, ◌≤◌, ◌∷◌, reverse, length, IsTrue, Option, Some, ap, ◌∙◌, arith, refl, sym, subst}
-use Rattle.em_log.specs.declared.ask.Ask.{Ask}
+use Rattle.std.proofs.Common.{◌≡◌, ◌<◌, ◌≤◌, ◌∷◌, reverse, IsTrue, Option, Some, ap, ◌∙◌, arith}
 use Rattle.em_log.specs.declared.entry.What.{What}
 use Rattle.em_log.specs.declared.ids.EoId.{EoId}
-use Rattle.em_log.specs.History.{Past, entry_by}
-use Rattle.em_log.specs.Leads.{refusal, scope, call_of}
+use Rattle.em_log.specs.History.{entry_by}
+use Rattle.em_log.specs.Leads.{refusal, scope}
 use Rattle.em_log.specs.Lawful.{may_ask}
 use Rattle.em_log.specs.Allowance.{left}
 use Rattle.em_desk.proofs.Newest.{appended}

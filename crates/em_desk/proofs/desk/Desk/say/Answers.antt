@@ -1,8 +1,7 @@
-use Rattle.std.proofs.Common.{ℕ, ◌≡◌, ◌<◌, ◌+◌, ◌≤◌, ◌∷◌, reverse, length, IsTrue, ap, ◌∙◌, arith, refl, sym}
-use Rattle.std.proofs.lemmas.List.{length-reverse}
+use Rattle.std.proofs.Common.{◌≡◌, ◌<◌, ◌≤◌, ◌∷◌, reverse, IsTrue, ap, ◌∙◌, arith, refl}
 use Rattle.em_log.specs.declared.ask.Ask.{Ask}
 use Rattle.em_log.specs.declared.entry.What.{What}
-use Rattle.em_log.specs.History.{Past, entry_by}
+use Rattle.em_log.specs.History.{entry_by}
 use Rattle.em_log.specs.Lawful.{may_ask}
 use Rattle.em_log.specs.Allowance.{left}
 use Rattle.em_desk.proofs.Newest.{appended}

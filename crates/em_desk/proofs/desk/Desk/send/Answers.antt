@@ -1,14 +1,13 @@
-use Rattle.std.proofs.Common.{ℕ, ◌≡◌, ◌<◌, ◌+◌, ◌≤◌, [], ◌∷◌, ◌++◌, reverse, slice_set, length, IsTrue, Some, None, ap, ◌∙◌, arith, refl, sym, subst}
+use Rattle.std.proofs.Common.{◌≡◌, ◌<◌, ◌≤◌, [], ◌∷◌, ◌++◌, reverse, slice_set, length, IsTrue, Some, None, ap, ◌∙◌, arith, refl, sym, subst}
 use Rattle.em_log.specs.declared.ask.Ask.{Ask}
-use Rattle.em_log.specs.declared.entry.What.{What}
 use Rattle.em_log.specs.declared.fault.Call.{Call}
-use Rattle.em_log.specs.History.{Past, entry_by, onto}
+use Rattle.em_log.specs.History.{entry_by, onto}
 use Rattle.em_log.specs.Handles.{rule}
 use Rattle.em_log.specs.Leads.{lead}
 use Rattle.em_log.specs.Lawful.{may_ask}
 use Rattle.em_log.specs.Allowance.{left}
 use Rattle.em_pool.specs.declared.place.Spend.{Spend}
-use Rattle.em_pool.specs.Steps.{Step, Spent}
+use Rattle.em_pool.specs.Steps.{Spent}
 use Rattle.em_pool.specs.State.{PoolState}
 use Rattle.em_pool.specs.Stands as pools
 use Rattle.em_desk.proofs.Newest.{appended}
@@ -19,7 +18,7 @@ use Rattle.em_desk.proofs.Sends.{send-keeps, send-room, send-refusal, send-own, 
 use Rattle.em_desk.proofs.Parks.{send_of}
 use Rattle.std.proofs.lemmas.List.{length-set}
 use Rattle.em_log.specs.History.{index_of}
-use Rattle.em_desk.specs.Lines.{LinesState, list_at}
+use Rattle.em_desk.specs.Lines.{list_at}
 use Rattle.em_desk.proofs.Next.{Kept}
 use Rattle.em_desk.specs.Stands.{spares}
 use Rattle.em_desk.proofs.desk.Desk.send.Goals.{After-told}
