@@ -1,4 +1,4 @@
-use Rattle.std.proofs.Common.{◌≡◌, refl, sym, ◌∙◌}
+use Rattle.std.proofs.Common.{refl, sym, ◌∙◌}
 use Rattle.em_tool.specs.Script.{first_of}
 use Rattle.em_tool.specs.FirstRun.{so_far, boot_alloc}
 use Rattle.em_tool.proofs.Going.{allocs, minted, answer-at, next-at, minted-is, alloc-is}
