@@ -1,5 +1,8 @@
 pub mod Simple
+pub mod Plain
 pub mod State
-pub mod Search
+pub mod Parts
+pub mod Lines
+pub mod Openings
+pub mod Starts
 pub mod Stands
-pub mod OneEvent

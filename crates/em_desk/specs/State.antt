@@ -21,6 +21,8 @@ abbrev pub IsServed : Ask → Type 0
 IsServed (Ask.Alloc p kind words) = Unit {0}
 IsServed (Ask.Free w) = Unit {0}
 IsServed (Ask.Send w q None) = Unit {0}
+IsServed (Ask.Keep w) = Unit {0}
+IsServed Ask.Claim = Unit {0}
 IsServed (Ask.Say v) = Unit {0}
 IsServed (Ask.End cells) = Unit {0}
 IsServed ask = ⊥

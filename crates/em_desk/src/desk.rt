@@ -1,44 +1,48 @@
 //! The desk of a run.
-ghost use Rattle.std.specs.Prelude.{◌≡◌, ◌<◌, ◌≤◌, [], true, false, reverse, None, IfOk, OnErr, IsTrue, is_some, length};
-ghost use Rattle.em_log.specs.History.{entry_by};
-ghost use Rattle.em_log.specs.Declarations.{declarations_of, events_of_pool};
+ghost use Rattle.std.specs.Prelude.{◌≡◌, ◌<◌, ◌≤◌, [], true, false, reverse, None, Some, IfOk, OnErr, IsTrue, is_some};
+ghost use Rattle.em_log.specs.Declarations.{declarations_of};
 ghost use Rattle.em_log.specs.Contexts.{context};
 ghost use Rattle.em_log.specs.Places.{taken};
 ghost use Rattle.em_log.specs.Operations.{step};
-ghost use Rattle.em_log.specs.Leads.{refusal, lead};
+ghost use Rattle.em_log.specs.Leads.{lead, refusal, call_of, scope as scope_of};
 ghost use Rattle.em_log.specs.Lawful.{Lawful, may_ask};
 ghost use Rattle.em_log.specs.Allowance.{cost_of_ask, left};
 ghost use Rattle.em_log.specs.Answers.{Takes, end_of};
 ghost use Rattle.em_log.specs.declared.ask.Ask.{Ask as TheAsk};
-ghost use Rattle.em_log.specs.declared.ask.Answer.{Answer as TheAnswer};
-ghost use Rattle.em_log.specs.declared.ask.Context.{Context as TheContext};
 ghost use Rattle.em_desk.specs.Simple.{IsSimple, AreInRange};
 ghost use Rattle.em_desk.specs.State.{DeskState, IsServed, IsSameRun, IsAnswered};
 
-use crate::mint::{allocated, minted_again};
-use crate::room::{make_room, spend};
-use crate::search::event_of;
+use crate::entries::{entry, make_room, received, told};
+use crate::lines::Lines;
+use crate::opening::{Opening, are_closed, closed, is_booting, object_in, receiver, rest};
+use crate::shapes::{event_count, index_of, object_of};
+use crate::starting::start;
 use em_log::{
-    Answer, Ask, Body, Cells, Config, Context, CoreId, Declarations, EndKind, Entry, EoId, Event,
-    Handle, Limits, Locals, NoMemory, PoolId, QueueId, Receive, Reply, Rest, What, Words, declare,
+    Answer, Ask, Body, Call, Cells, Config, Context, CoreId, Declarations, EndKind, Entry, Event,
+    Fault, Handle, Limits, Locals, NoMemory, PoolId, QueueId, Reply, What, Words, declare,
 };
+use em_pool::{Pools, Spend};
 use std::alloc::Global;
 use std::marker::Model;
 
-/// The most entries that a take and the context that it opens may add.
-const ROOM: usize = 259;
+/// The most entries that a take and the contexts that are open then may add: one context of each of eight cores, and
+/// one more.
+const ROOM: usize = 9 * 259;
 
-/// A desk: the declarations of a graph, the limits of a run, and the history so far.
+/// A desk: the declarations of a graph, the limits of a run, and the history so far. Beside them stand the events, the
+/// open context of each core, the events that wait in each queue, those that each object keeps, and how many receives
+/// have started.
 #[derive(Drop)]
 pub struct Desk {
     declarations: Declarations,
     limits: Limits,
     halted: bool,
     log: Vec<Entry>,
-    held: Vec<u64>,
-    arrived: Vec<Event>,
+    pools: Pools,
+    contexts: Vec<Opening>,
+    waiting: Lines,
+    kept: Lines,
     started: u16,
-    in_context: bool,
 }
 
 impl Model for Desk {
@@ -52,68 +56,30 @@ impl Model for Desk {
     ghost invariant = { Stands };
 }
 
-/// An entry of the one core.
-fn entry(what: What) -> Entry
-    ensures { result ≡ entry_by 0 what }
-{
-    Entry {
-        core: CoreId(0),
-        what,
-    }
-}
-
-/// A reply after which no step is owed.
-fn told(answer: Answer) -> Reply
-    ensures { result ≡ record { answer = answer; owed = false } }
-{
-    Reply {
-        answer,
-        owed: false,
-    }
-}
-
-/// The context of a receive of queue 0 by object 0, with no ticket, cells or further events.
-fn received(event: Event) -> Answer
-    ensures { result ≡ TheAnswer.Context (TheContext.Receive (record { queue = record { 0 = 0 }; eo = record { 0 = 0 }; event = event; stamp = None; ticket = None; cells = None; rest = [] })) }
-{
-    Answer::Context(Context::Receive(Receive {
-        queue: QueueId(0),
-        eo: EoId(0),
-        event,
-        stamp: None,
-        ticket: None,
-        cells: None,
-        rest: Rest::new(),
-    }))
-}
-
-/// How many events the first pool has.
-fn pool_events(declarations: &Declarations) -> u16
-    ensures { result ≡ events_of_pool declarations.now 0 }
-{
-    match declarations.pools.as_slice().first() {
-        Some(pool) => pool.events,
-        None => 0,
-    }
-}
-
 impl Desk {
-    /// A desk over this graph, with the empty history. Today the graph is simple: one core, one pool of at most 4,096
-    /// events, one object that runs, and one parallel queue. Err is want of memory.
+    /// A desk over this graph, with the empty history. Today the graph is simple: 1 to 8 cores, pools, objects that
+    /// run, and parallel queues of priority normal in the group of all cores. Err is want of memory.
     pub fn build(alloc: Global, config: &Config, limits: Limits) -> Result<Desk, NoMemory>
         requires simple { IsSimple (declarations_of config.now) }
         requires limits { AreInRange limits }
         ensures { IfOk result (λ d. d ≡ record { declarations = declarations_of config.now; limits = limits; past = []; halted = false }) }
     {
+        let declarations = declare(alloc, config)?;
+        let pools = Pools::build(alloc, config)?;
+        let events = event_count(&declarations);
+        let contexts = closed(alloc, declarations.cores)?;
+        let waiting = Lines::build(alloc, declarations.queues.as_slice().len() as u16, events)?;
+        let kept = Lines::build(alloc, declarations.running.as_slice().len() as u16, events)?;
         Ok(Desk {
-            declarations: declare(alloc, config)?,
+            declarations,
             limits,
             halted: false,
             log: Vec::new(alloc),
-            held: Vec::new(alloc),
-            arrived: Vec::new(alloc),
+            pools,
+            contexts,
+            waiting,
+            kept,
             started: 0,
-            in_context: false,
         })
     }
 
@@ -130,131 +96,205 @@ impl Desk {
         ensures err { OnErr result (self.new ≡ self.old) }
     {
         make_room(&mut self.log, ROOM)?;
-        make_room(&mut self.held, ROOM)?;
-        make_room(&mut self.arrived, ROOM)?;
+        self.pools.reserve(ROOM as u32)?;
         if self.halted {
             return Ok(told(Answer::Halted));
         }
         if self.log.is_empty() {
-            self.log.push_reserved(entry(What::Enter(Body::Boot)));
-            self.in_context = true;
+            if core.0 > 0 {
+                return Ok(told(Answer::Idle));
+            }
+            self.log.push_reserved(entry(core, What::Enter(Body::Boot)));
+            self.contexts[0] = Opening::Boot;
             return Ok(told(Answer::Context(Context::Boot)));
         }
-        let next = usize::from(self.started);
-        if next == self.arrived.len() {
-            return Ok(told(Answer::Quiet));
+        if is_booting(self.contexts.as_slice()) {
+            return Ok(told(Answer::Idle));
         }
+        let Some(number) = self.waiting.filled() else {
+            return Ok(told(rest(self.contexts.as_slice(), Answer::Quiet)));
+        };
         if self.started == self.limits.receives {
-            return Ok(told(Answer::Limit));
+            return Ok(told(rest(self.contexts.as_slice(), Answer::Limit)));
         }
-        let event = minted_again(self.log.as_slice(), &self.arrived[next]);
-        self.log.push_reserved(entry(What::Take {
-            queue: QueueId(0),
-            n: 1,
-            ticket: None,
-        }));
-        self.log.push_reserved(entry(What::Start {
-            queue: QueueId(0),
-            event: event.copy(),
-            stamp: None,
-        }));
-        self.held.clear();
-        self.held.push_reserved(event.handle.0);
+        let queue = QueueId(number);
+        let object = object_of(&self.declarations, queue);
+        let event = start(
+            &mut self.log,
+            &mut self.pools,
+            &mut self.waiting,
+            core,
+            queue,
+        );
+        self.contexts[usize::from(core.0)] = Opening::Receive(object);
         self.started += 1;
-        self.in_context = true;
-        Ok(told(received(event)))
+        Ok(told(received(queue, object, event)))
     }
 
     /// An ask of the core's open context, which has enough left of its allowance. It adds the entry that the ask gives
-    /// with all that follows, and answers by that entry. Today the ask is one that the desk serves, and not refused.
+    /// with all that follows, and answers by that entry. Today the ask is one that the desk serves.
     pub fn ask(&mut self, core: CoreId, ask: Ask, local: &Locals) -> Reply
         requires core { core.0 < self.old.declarations.cores }
         requires no_locals { local.now ≡ [] }
         requires may_ask { IsTrue (may_ask self.old.declarations self.old.past core.0 ask) }
         requires allowance { cost_of_ask ask ≤ left self.old.declarations self.old.past core.0 }
         requires served { IsServed ask }
-        requires accepted { refusal self.old.declarations self.old.past core.0 ask ≡ None }
         ensures { IsAnswered self.old self.new core.0 (lead self.old.declarations self.old.past core.0 ask) result }
     {
-        // Read here, so that what the fields stand for is known: there is one core.
-        let _ = &self.declarations;
         match ask {
-            Ask::Alloc { pool, kind, words } => self.alloc(pool, kind, words),
-            Ask::Free(word) => self.free(word),
-            Ask::Send { word, queue, .. } => self.send(word, queue),
-            Ask::Say(value) => self.say(value),
-            Ask::End(cells) => self.end(cells),
+            Ask::Alloc { pool, kind, words } => self.alloc(core, pool, kind, words),
+            Ask::Free(word) => self.free(core, word),
+            Ask::Send { word, queue, .. } => self.send(core, word, queue),
+            Ask::Keep(word) => self.keep(core, word),
+            Ask::Claim => self.claim(core),
+            Ask::Say(value) => self.say(core, value),
+            Ask::End(cells) => self.end(core, cells),
             _ => told(Answer::Done),
         }
     }
 
-    /// Mints a handle for the least free event of the pool.
-    fn alloc(&mut self, pool: PoolId, kind: u32, words: Words) -> Reply
-        requires may_ask { IsTrue (may_ask self.old.declarations self.old.past 0 (TheAsk.Alloc pool kind words)) }
-        requires allowance { 1 ≤ left self.old.declarations self.old.past 0 }
-        requires accepted { refusal self.old.declarations self.old.past 0 (TheAsk.Alloc pool kind words) ≡ None }
-        ensures { IsAnswered self.old self.new 0 (lead self.old.declarations self.old.past 0 (TheAsk.Alloc pool kind words)) result }
+    /// Adds the fault of a refused ask.
+    fn refuse(&mut self, core: CoreId, call: Call, fault: Fault) -> Reply
+        requires core { core.0 < self.old.declarations.cores }
+        requires allowance { 1 ≤ left self.old.declarations self.old.past core.0 }
+        requires refused { (a : TheAsk) × (IsTrue (may_ask self.old.declarations self.old.past core.0 a)) × (refusal self.old.declarations self.old.past core.0 a ≡ Some fault) × (call_of a ≡ call) }
+        ensures { IsAnswered self.old self.new core.0 (What.Fault call fault (scope_of self.old.declarations self.old.past core.0)) result }
     {
-        let events = pool_events(&self.declarations);
-        let event = allocated(self.log.as_slice(), events, kind, words);
-        self.log.push_reserved(entry(What::Alloc {
-            pool,
-            event: event.copy(),
-        }));
-        self.held.push_reserved(event.handle.0);
-        told(Answer::Minted(event))
+        let scope = object_in(self.contexts.as_slice(), core);
+        let answer = Answer::Refused(fault);
+        self.log
+            .push_reserved(entry(core, What::Fault { call, fault, scope }));
+        told(answer)
+    }
+
+    /// Mints a handle for the least free event of the pool.
+    fn alloc(&mut self, core: CoreId, pool: PoolId, kind: u32, words: Words) -> Reply
+        requires core { core.0 < self.old.declarations.cores }
+        requires may_ask { IsTrue (may_ask self.old.declarations self.old.past core.0 (TheAsk.Alloc pool kind words)) }
+        requires allowance { 1 ≤ left self.old.declarations self.old.past core.0 }
+        ensures { IsAnswered self.old self.new core.0 (lead self.old.declarations self.old.past core.0 (TheAsk.Alloc pool kind words)) result }
+    {
+        match self.pools.alloc(core, pool, kind, words.copy()) {
+            Ok(handle) => {
+                let event = Event {
+                    handle,
+                    kind,
+                    words,
+                };
+                self.log.push_reserved(entry(
+                    core,
+                    What::Alloc {
+                        pool,
+                        event: event.copy(),
+                    },
+                ));
+                told(Answer::Minted(event))
+            }
+            Err(fault) => self.refuse(core, Call::Alloc, fault),
+        }
     }
 
     /// Frees the event of this handle.
-    fn free(&mut self, word: u64) -> Reply
-        requires may_ask { IsTrue (may_ask self.old.declarations self.old.past 0 (TheAsk.Free word)) }
-        requires allowance { 1 ≤ left self.old.declarations self.old.past 0 }
-        requires accepted { refusal self.old.declarations self.old.past 0 (TheAsk.Free word) ≡ None }
-        ensures { IsAnswered self.old self.new 0 (lead self.old.declarations self.old.past 0 (TheAsk.Free word)) result }
+    fn free(&mut self, core: CoreId, word: u64) -> Reply
+        requires core { core.0 < self.old.declarations.cores }
+        requires may_ask { IsTrue (may_ask self.old.declarations self.old.past core.0 (TheAsk.Free word)) }
+        requires allowance { 1 ≤ left self.old.declarations self.old.past core.0 }
+        ensures { IsAnswered self.old self.new core.0 (lead self.old.declarations self.old.past core.0 (TheAsk.Free word)) result }
     {
-        self.log.push_reserved(entry(What::Free(Handle(word))));
-        spend(&mut self.held, word);
+        if let Err(fault) = self.pools.rule(core, word) {
+            return self.refuse(core, Call::Free, fault);
+        }
+        let place = self.log.len() as u64;
+        self.pools.spend(core, word, Spend::Freed, place);
+        self.log
+            .push_reserved(entry(core, What::Free(Handle(word))));
         told(Answer::Done)
     }
 
     /// Sends the event of this handle to the queue.
-    fn send(&mut self, word: u64, queue: QueueId) -> Reply
-        requires may_ask { IsTrue (may_ask self.old.declarations self.old.past 0 (TheAsk.Send word queue None)) }
-        requires allowance { 2 ≤ left self.old.declarations self.old.past 0 }
-        requires accepted { refusal self.old.declarations self.old.past 0 (TheAsk.Send word queue None) ≡ None }
-        ensures { IsAnswered self.old self.new 0 (lead self.old.declarations self.old.past 0 (TheAsk.Send word queue None)) result }
+    fn send(&mut self, core: CoreId, word: u64, queue: QueueId) -> Reply
+        requires core { core.0 < self.old.declarations.cores }
+        requires may_ask { IsTrue (may_ask self.old.declarations self.old.past core.0 (TheAsk.Send word queue None)) }
+        requires allowance { 2 ≤ left self.old.declarations self.old.past core.0 }
+        ensures { IsAnswered self.old self.new core.0 (lead self.old.declarations self.old.past core.0 (TheAsk.Send word queue None)) result }
     {
-        let sent = event_of(self.log.as_slice(), word).unwrap_or_default();
-        self.arrived.push_reserved(sent);
-        self.log.push_reserved(entry(What::Send {
-            handle: Handle(word),
-            queue,
-            ticket: None,
-            stamp: None,
-        }));
-        spend(&mut self.held, word);
+        if let Err(fault) = self.pools.rule(core, word) {
+            return self.refuse(core, Call::Send, fault);
+        }
+        let place = self.log.len() as u64;
+        self.pools.spend(core, word, Spend::Sent(queue), place);
+        self.waiting.add(queue.0, index_of(word));
+        self.log.push_reserved(entry(
+            core,
+            What::Send {
+                handle: Handle(word),
+                queue,
+                ticket: None,
+                stamp: None,
+            },
+        ));
         told(Answer::Done)
     }
 
-    /// Notes a value.
-    fn say(&mut self, value: u64) -> Reply
-        requires may_ask { IsTrue (may_ask self.old.declarations self.old.past 0 (TheAsk.Say value)) }
-        requires allowance { 1 ≤ left self.old.declarations self.old.past 0 }
-        ensures { IsAnswered self.old self.new 0 (lead self.old.declarations self.old.past 0 (TheAsk.Say value)) result }
+    /// Keeps the event of this handle for the context's object.
+    fn keep(&mut self, core: CoreId, word: u64) -> Reply
+        requires core { core.0 < self.old.declarations.cores }
+        requires may_ask { IsTrue (may_ask self.old.declarations self.old.past core.0 (TheAsk.Keep word)) }
+        requires allowance { 1 ≤ left self.old.declarations self.old.past core.0 }
+        ensures { IsAnswered self.old self.new core.0 (lead self.old.declarations self.old.past core.0 (TheAsk.Keep word)) result }
     {
-        self.log.push_reserved(entry(What::Say(value)));
+        if let Err(fault) = self.pools.rule(core, word) {
+            return self.refuse(core, Call::Keep, fault);
+        }
+        let place = self.log.len() as u64;
+        let object = receiver(self.contexts.as_slice(), core);
+        self.pools.spend(core, word, Spend::Kept(object), place);
+        self.kept.add(u16::from(object.0), index_of(word));
+        self.log
+            .push_reserved(entry(core, What::Keep(Handle(word))));
+        told(Answer::Done)
+    }
+
+    /// Gives the longest kept event of the context's object, if it keeps one.
+    fn claim(&mut self, core: CoreId) -> Reply
+        requires core { core.0 < self.old.declarations.cores }
+        requires may_ask { IsTrue (may_ask self.old.declarations self.old.past core.0 TheAsk.Claim) }
+        requires allowance { 1 ≤ left self.old.declarations self.old.past core.0 }
+        ensures { IsAnswered self.old self.new core.0 (lead self.old.declarations self.old.past core.0 TheAsk.Claim) result }
+    {
+        let object = receiver(self.contexts.as_slice(), core);
+        let Some(index) = self.kept.take(u16::from(object.0)) else {
+            self.log.push_reserved(entry(core, What::Claim(None)));
+            return told(Answer::Nothing);
+        };
+        let event = self.pools.mint(core, index);
+        self.log
+            .push_reserved(entry(core, What::Claim(Some(event.copy()))));
+        told(Answer::Minted(event))
+    }
+
+    /// Notes a value.
+    fn say(&mut self, core: CoreId, value: u64) -> Reply
+        requires core { core.0 < self.old.declarations.cores }
+        requires may_ask { IsTrue (may_ask self.old.declarations self.old.past core.0 (TheAsk.Say value)) }
+        requires allowance { 1 ≤ left self.old.declarations self.old.past core.0 }
+        ensures { IsAnswered self.old self.new core.0 (lead self.old.declarations self.old.past core.0 (TheAsk.Say value)) result }
+    {
+        self.log.push_reserved(entry(core, What::Say(value)));
         told(Answer::Done)
     }
 
     /// Ends the context: what it holds is lost.
-    fn end(&mut self, cells: Option<Cells>) -> Reply
-        requires may_ask { IsTrue (may_ask self.old.declarations self.old.past 0 (TheAsk.End cells)) }
-        ensures { IsAnswered self.old self.new 0 (lead self.old.declarations self.old.past 0 (TheAsk.End cells)) result }
+    fn end(&mut self, core: CoreId, cells: Option<Cells>) -> Reply
+        requires core { core.0 < self.old.declarations.cores }
+        requires may_ask { IsTrue (may_ask self.old.declarations self.old.past core.0 (TheAsk.End cells)) }
+        ensures { IsAnswered self.old self.new core.0 (lead self.old.declarations self.old.past core.0 (TheAsk.End cells)) result }
     {
-        let lost = self.held.len() as u32;
-        self.log.push_reserved(entry(What::End { lost, cells }));
-        self.held.clear();
-        self.in_context = false;
+        let place = self.log.len() as u64;
+        let lost = self.pools.lose(core, place);
+        self.log
+            .push_reserved(entry(core, What::End { lost, cells }));
+        self.contexts[usize::from(core.0)] = Opening::Closed;
         told(Answer::Done)
     }
 
@@ -277,10 +317,10 @@ impl Desk {
     pub fn end_kind(&self) -> Option<EndKind>
         ensures { result ≡ end_of self.now.declarations self.now.limits self.now.past }
     {
-        if self.log.is_empty() || self.in_context {
+        if self.log.is_empty() || !are_closed(self.contexts.as_slice()) {
             return None;
         }
-        if usize::from(self.started) == self.arrived.len() {
+        if self.waiting.filled().is_none() {
             return Some(EndKind::Quiet);
         }
         if self.started == self.limits.receives {

@@ -2,10 +2,10 @@
 #![tactic(auto)]
 
 pub mod desk;
-mod mint;
-mod room;
-mod search;
-#[cfg(test)]
-mod tests;
+mod entries;
+mod lines;
+mod opening;
+mod shapes;
+mod starting;
 
 pub use desk::Desk;

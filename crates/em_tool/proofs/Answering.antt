@@ -1,17 +1,13 @@
 -- What a call comes to, from what it read and ran; and what follows from its answer.
-use Rattle.std.proofs.Common.{ℕ, ◌≡◌, ◌≤◌, ◌<◌, ◌++◌, ◌⊎◌, List, [], ◌∷◌, length, reverse, Option, Some, None, IfSome, refl, sym, ap, subst, ◌∙◌, arith, inl, inr}
+use Rattle.std.proofs.Common.{ℕ, ◌≡◌, ◌<◌, ◌++◌, List, [], length, reverse, Option, Some, None, IfSome, refl, sym, ap, subst, ◌∙◌, arith, inl, inr}
 use Rattle.std.specs.Io.KnownBytes.{append_known, prepend_known, IsAtEnd}
 use Rattle.std.proofs.lemmas.List.{append-nil}
-use Rattle.em_log.specs.declared.graph.Config.{Config}
-use Rattle.em_log.specs.declared.entry.Entry.{Entry}
-use Rattle.em_log.specs.declared.ids.Limits.{Limits}
-use Rattle.em_io.specs.Faults.{HasRisen}
 use Rattle.em_tool.specs.declared.words.Solo.{Solo}
 use Rattle.em_tool.specs.declared.outcome.Outcome.{Outcome}
 use Rattle.em_tool.specs.declared.outcome.Outcome.TheVariants as outcomes
 use Rattle.em_tool.specs.FirstForm.{IsFirstForm}
 use Rattle.em_tool.specs.Words.{IsSolo}
-use Rattle.em_tool.specs.Outcome.{Reading, ReadsAll, Runs, IsOutcomeOf, Due, NotKnown, ReadFailed, TooLong, Refused, Ran, Answers, Written, WriteFailed, NoMemory, NoMemoryWriting, status_of, text_of_outcome}
+use Rattle.em_tool.specs.Outcome.{Reading, ReadsAll, IsOutcomeOf, Due, NotKnown, ReadFailed, TooLong, Refused, Ran, Answers, Written, WriteFailed, NoMemory, NoMemoryWriting, status_of, text_of_outcome}
 use Rattle.em_tool.specs.Headline.{CanRun, Headline, IsZeroOrSeven}
 
 -- what the bytes come to is due

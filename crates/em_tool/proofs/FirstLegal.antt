@@ -1,16 +1,15 @@
 -- The history of a script of the first form is legal, and leaves nothing to do.
-use Rattle.std.proofs.Common.{ℕ, nat_le, slice_index, reverse, ◌≤◌, ◌-◌, ◌^◌, ◌%◌, suc, zero, ◌≡◌, ◌<◌, Bool, true, false, nat_lt, List, [], ◌∷◌, length, map, Option, Some, None, refl, sym, ap, subst, ◌∙◌, arith, lit<, IsTrue}
+use Rattle.std.proofs.Common.{ℕ, nat_le, slice_index, reverse, ◌≤◌, ◌-◌, ◌^◌, ◌%◌, suc, zero, ◌≡◌, ◌<◌, true, false, nat_lt, List, [], ◌∷◌, length, map, None, refl, sym, ap, subst, ◌∙◌, arith, lit<}
 use Rattle.std.proofs.Math.Nat.{mod-lt}
 use borrow.Author.Tests.{lt-ltb, le-ltb, le-leb}
 use Rattle.em_log.specs.declared.ask.Ask.{Ask}
-use Rattle.em_log.specs.declared.entry.Entry.{Entry}
 use Rattle.em_log.specs.declared.ids.Limits.{Limits}
-use Rattle.em_log.specs.History.{Past, entry_by, onto}
+use Rattle.em_log.specs.History.{entry_by, onto}
 use Rattle.em_log.specs.Declarations.{declarations_of}
 use Rattle.em_log.specs.declared.entry.What.{What}
 use Rattle.em_log.specs.declared.entry.Body.{Body}
 use Rattle.em_log.specs.Leads.{lead}
-use Rattle.em_log.specs.Lawful.{Lawful, AllAllowed, Boots, Steps, Takes, Starts, Untakes, Asks}
+use Rattle.em_log.specs.Lawful.{Lawful, Boots, Takes, Asks}
 use Rattle.em_log.specs.Eligible.{is_quiet}
 use Rattle.em_log.specs.Legal.{Legal, EndedFollow, FollowsSoFar, plain_env}
 use Rattle.em_log.specs.declared.body.Expr.TheVariants as expr
@@ -20,7 +19,7 @@ use Rattle.em_tool.specs.declared.said.Said.TheVariants as said
 use Rattle.em_tool.specs.Outcome.{IsWholeRun}
 use Rattle.em_tool.specs.FirstForm.{said_expression}
 use Rattle.em_tool.specs.FirstForm.{First, Fits, graph_of}
-use Rattle.em_tool.specs.FirstRun.{event_of, history_of, said_value, so_far, boot_alloc, boot_send, the_end, receive_say, receive_free}
+use Rattle.em_tool.specs.FirstRun.{event_of, history_of, said_value, so_far, boot_alloc}
 
 abbrev the_first : List ℕ → List ℕ → List ℕ → ℕ → ℕ → ℕ → List ℕ → Said → First
 the_first pool eo queue m words kind values said = record { pool = pool; events = suc m; words = words; eo = eo; queue = queue; kind = kind; values = values; said = said }

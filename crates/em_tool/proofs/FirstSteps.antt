@@ -1,28 +1,26 @@
 -- What each ask of a script of the first form finds, and what it leaves.
-use Rattle.std.proofs.Common.{ℕ, suc, zero, ◌≡◌, ◌<◌, ◌≤◌, ◌^◌, ◌%◌, Bool, true, false, ◌&&◌, ◌||◌, nat_lt, nat_le, List, [], ◌∷◌, length, map, Option, Some, None, refl, sym, ap, subst, ◌∙◌, arith, lit<, lit≤, IsTrue}
+use Rattle.std.proofs.Common.{ℕ, suc, zero, ◌≡◌, ◌≤◌, ◌^◌, ◌%◌, Bool, true, false, ◌&&◌, nat_lt, nat_le, List, [], length, Some, None, refl, sym, ap, subst, ◌∙◌, lit<, lit≤, IsTrue}
 use Rattle.std.proofs.Math.Nat.{mod-lt}
 use borrow.Author.Tests.{lt-ltb}
 use Rattle.em_log.specs.declared.ask.Ask.{Ask}
 use Rattle.em_log.specs.declared.ask.Answer.{Answer}
-use Rattle.em_log.specs.declared.entry.Entry.{Entry}
 use Rattle.em_log.specs.declared.ids.Limits.{Limits}
-use Rattle.em_log.specs.History.{Past, entry_by, onto}
+use Rattle.em_log.specs.History.{Past, entry_by}
 use Rattle.em_log.specs.Declarations.{declarations_of}
-use Rattle.em_log.specs.Leads.{lead, refusal}
+use Rattle.em_log.specs.Leads.{lead}
 use Rattle.em_log.specs.Lawful.{may_ask}
 use Rattle.em_log.specs.Allowance.{cost_of_ask, left}
 use Rattle.em_log.specs.declared.ask.Context.{Context}
 use Rattle.em_log.specs.declared.declarations.Declarations.{Declarations}
 use Rattle.em_log.specs.Answers.{answer_of, block, context_told, RestAnswer, Takes, Halted, Boots, Early, Enters, Acks, Receives, Rests}
 use Rattle.em_tool.specs.declared.said.Said.{Said}
-use Rattle.em_tool.specs.FirstForm.{First, Fits, graph_of}
-use Rattle.em_tool.specs.FirstRun.{event_of, history_of, said_value, so_far, boot_alloc, boot_send, the_end, receive_say, receive_free}
+use Rattle.em_tool.specs.FirstForm.{First, graph_of}
+use Rattle.em_tool.specs.FirstRun.{event_of, so_far, boot_alloc, boot_send, the_end, receive_say, receive_free}
 
 -- core 0 may ask this after from, is not refused, and leaves to
 pub record Goes (f : First) (from : Past) (ask : Ask) (to : Past) : Type 0 where
   pub may : IsTrue (may_ask (declarations_of (graph_of f)) from 0 ask)
   pub allowance : cost_of_ask ask ≤ left (declarations_of (graph_of f)) from 0
-  pub accepted : refusal (declarations_of (graph_of f)) from 0 ask ≡ None
   pub next : block (declarations_of (graph_of f)) from (entry_by 0 (lead (declarations_of (graph_of f)) from 0 ask)) ≡ to
 
 abbrev the_first : List ℕ → List ℕ → List ℕ → ℕ → ℕ → ℕ → List ℕ → Said → First
@@ -43,25 +41,25 @@ module _ (pool eo queue : List ℕ) (m words kind : ℕ) (values : List ℕ) (sa
   is_kind = lt-ltb _ _ (mod-lt kind (lit< tt))
 
   pub allocs : Goes f (so_far f 1) (boot_alloc f) (so_far f 2)
-  allocs = record { may = rw (is_kind, few) refl; allowance = lit≤ tt; accepted = rw fits refl; next = rw fits refl }
+  allocs = record { may = rw (is_kind, few) refl; allowance = lit≤ tt; next = rw fits refl }
 
   pub minted : answer_of (lead (declarations_of (graph_of f)) (so_far f 1) 0 (boot_alloc f)) ≡ Answer.Minted (event_of f 65536)
   minted = rw fits refl
 
   pub sends : Goes f (so_far f 2) boot_send (so_far f 3)
-  sends = record { may = refl; allowance = lit≤ tt; accepted = refl; next = refl }
+  sends = record { may = refl; allowance = lit≤ tt; next = refl }
 
   pub ends_boot : Goes f (so_far f 3) the_end (so_far f 4)
-  ends_boot = record { may = refl; allowance = lit≤ tt; accepted = refl; next = refl }
+  ends_boot = record { may = refl; allowance = lit≤ tt; next = refl }
 
   pub says : Goes f (so_far f 6) (receive_say f) (so_far f 7)
-  says = record { may = refl; allowance = lit≤ tt; accepted = refl; next = refl }
+  says = record { may = refl; allowance = lit≤ tt; next = refl }
 
   pub frees : Goes f (so_far f 7) receive_free (so_far f 8)
-  frees = record { may = refl; allowance = lit≤ tt; accepted = refl; next = refl }
+  frees = record { may = refl; allowance = lit≤ tt; next = refl }
 
   pub ends_receive : Goes f (so_far f 8) the_end (so_far f 9)
-  ends_receive = record { may = refl; allowance = lit≤ tt; accepted = refl; next = refl }
+  ends_receive = record { may = refl; allowance = lit≤ tt; next = refl }
 
   abbrev k : Declarations
   k = declarations_of (graph_of f)

@@ -1,23 +1,18 @@
 -- From one moment of the run of a script of the first form to the next, as the desk tells it.
-use Rattle.std.proofs.Common.{ℕ, suc, ◌≡◌, ◌≤◌, ◌-◌, ◌^◌, ◌%◌, Bool, true, false, List, [], ◌∷◌, Option, Some, None, refl, sym, ap, subst, ◌∙◌, arith, IsTrue}
-use borrow.Author.Tests.{lt-ltb, le-ltb, le-leb}
+use Rattle.std.proofs.Common.{ℕ, suc, ◌≡◌, ◌≤◌, ◌-◌, List, refl, sym, ap, subst, ◌∙◌, arith}
+use borrow.Author.Tests.{le-ltb, le-leb}
 use Rattle.em_log.specs.declared.ask.Ask.{Ask}
 use Rattle.em_log.specs.declared.ask.Answer.{Answer}
-use Rattle.em_log.specs.declared.ask.Context.{Context}
 use Rattle.em_log.specs.declared.ask.Reply.{Reply}
-use Rattle.em_log.specs.declared.declarations.Declarations.{Declarations}
 use Rattle.em_log.specs.declared.entry.Event.{Event}
-use Rattle.em_log.specs.declared.entry.What.{What}
 use Rattle.em_log.specs.declared.ids.Limits.{Limits}
 use Rattle.em_log.specs.History.{Past, entry_by}
 use Rattle.em_log.specs.Declarations.{declarations_of}
-use Rattle.em_log.specs.Leads.{lead, refusal}
-use Rattle.em_log.specs.Lawful.{may_ask}
-use Rattle.em_log.specs.Allowance.{cost_of_ask, left}
-use Rattle.em_log.specs.Answers.{answer_of, block, Takes}
-use Rattle.em_desk.specs.State.{DeskState, IsAnswered, IsSameRun}
+use Rattle.em_log.specs.Leads.{lead}
+use Rattle.em_log.specs.Answers.{answer_of, block}
+use Rattle.em_desk.specs.State.{DeskState, IsAnswered}
 use Rattle.em_tool.specs.FirstForm.{First, Fits, graph_of}
-use Rattle.em_tool.specs.FirstRun.{event_of, so_far, boot_alloc, boot_send, the_end, receive_say, receive_free}
+use Rattle.em_tool.specs.FirstRun.{event_of, so_far, boot_alloc}
 use Rattle.em_tool.specs.RunState.{IsAt}
 use Rattle.em_tool.proofs.FirstSteps.{Goes}
 use Rattle.em_tool.proofs.FirstSteps as steps
@@ -43,10 +38,6 @@ module _ (f : First) (fits : Fits f) where
 -- at a desk
 
 module _ (f : First) (n : ℕ) (d : DeskState) (at : IsAt f n d) (a a' : Ask) (same : a ≡ a') (to : Past) (goes : Goes f (so_far f n) a' to) where
-  pub accepted-at : refusal d.declarations d.past 0 a ≡ None
-  accepted-at = ap (λ x. refusal d.declarations d.past 0 x) same
-      ∙ (ap (λ k. refusal k d.past 0 a') at.declarations ∙ (ap (λ p. refusal (declarations_of (graph_of f)) p 0 a') at.past ∙ goes.accepted))
-
   lead-at : lead d.declarations d.past 0 a ≡ lead (declarations_of (graph_of f)) (so_far f n) 0 a'
   lead-at = ap (λ x. lead d.declarations d.past 0 x) same
       ∙ (ap (λ k. lead k d.past 0 a') at.declarations ∙ ap (λ p. lead (declarations_of (graph_of f)) p 0 a') at.past)

@@ -1,13 +1,8 @@
-use Rattle.std.proofs.Common.{◌≡◌, refl, sym, ◌∙◌}
+use Rattle.std.proofs.Common.{refl, sym, ◌∙◌}
 use Rattle.em_tool.specs.Script.{first_of}
 use Rattle.em_tool.specs.FirstRun.{so_far, boot_alloc}
-use Rattle.em_tool.proofs.Going.{allocs, minted, accepted-at, answer-at, next-at, minted-is, alloc-is}
+use Rattle.em_tool.proofs.Going.{allocs, minted, answer-at, next-at, minted-is, alloc-is}
 use Rattle.em_tool.proofs.run.alloc.Goals as goal
-
-pub ask-requires-clause-accepted : goal.ask-requires-clause-accepted
-ask-requires-clause-accepted c =
-    let f = first_of c.args.script.now in
-    accepted-at f 1 c.args.desk.now c.requires.at _ (boot_alloc f) (alloc-is _ _ _ _ c.kind_of.ensures c.words_of.ensures) (so_far f 2) (allocs f c.requires.fits)
 
 pub unreachable-requires : goal.unreachable-requires
 unreachable-requires c =

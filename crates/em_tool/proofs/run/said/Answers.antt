@@ -1,4 +1,4 @@
-use Rattle.std.proofs.Common.{◌≡◌, slice_index, sym, ap, ◌∙◌}
+use Rattle.std.proofs.Common.{slice_index, sym, ap, ◌∙◌}
 use Rattle.em_log.specs.declared.entry.Event.{Event}
 use Rattle.em_tool.specs.Script.{first_of}
 use Rattle.em_tool.proofs.FirstLegal.{said-word}

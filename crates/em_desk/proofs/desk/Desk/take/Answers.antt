@@ -1,133 +1,247 @@
-use Rattle.std.proofs.Common.{◌≡◌, ◌+◌, ◌<◌, ◌≤◌, ◌==◌, ℕ, [], ◌∷◌, ◌++◌, List, length, reverse, get_or, false, None, Some, ap, sym, ◌∙◌, subst, arith}
-use Rattle.std.proofs.lemmas.List.{length-reverse}
+use Rattle.std.proofs.Common.{◌≡◌, ◌∙◌, ◌<◌, true, List, reverse, Some, ap, sym, subst, refl, arith, slice_set, if◌then◌else◌}
+use Rattle.std.specs.List.{list_all}
 use Rattle.em_log.specs.declared.ask.Answer.{Answer}
 use Rattle.em_log.specs.declared.ask.Reply.{Reply}
-use Rattle.em_log.specs.declared.declarations.Declarations.{Declarations}
-use Rattle.em_log.specs.declared.entry.Entry.{Entry}
-use Rattle.em_log.specs.declared.entry.Event.{Event}
-use Rattle.em_log.specs.History.{Past}
-use Rattle.em_log.specs.Contexts.{context}
-use Rattle.em_log.specs.Answers.{Takes, Receives, block, context_told}
-use Rattle.em_desk.specs.Simple.{simple}
-use Rattle.em_desk.specs.State.{DeskState}
-use Rattle.std.specs.Vec.{vec_len, vec_capacity}
-use Rattle.em_desk.proofs.Newest.{appended}
-use Rattle.em_desk.proofs.Fields.{in_fields, core-first, no-step}
-use Rattle.em_desk.proofs.Ready.{boot-over}
-use Rattle.em_desk.proofs.Taking.{took, started_with, again, IsNext, next-is, block-next, told-next, take-keeps, receive_of}
+use Rattle.em_log.specs.declared.entry.What.{What}
+use Rattle.em_log.specs.declared.ids.EoId.{EoId}
+use Rattle.em_log.specs.declared.ids.QueueId.{QueueId}
+use Rattle.em_log.specs.History.{Past, entry_by}
+use Rattle.em_log.specs.Declarations.{object_of}
+use Rattle.em_log.specs.Contexts.{boot_ended}
+use Rattle.em_log.specs.Leads.{item_again}
+use Rattle.em_log.specs.Answers.{Early, Rests, Receives, RestAnswer, block, context_told, object_id}
+use Rattle.em_desk.specs.declared.opening.Opening.{Opening}
+use Rattle.em_desk.specs.Plain.{ArePlain}
+use Rattle.em_desk.specs.Parts.{pool_steps}
+use Rattle.em_desk.specs.Openings.{is_closed}
+use Rattle.em_desk.proofs.Graphs.{no-step}
+use Rattle.em_desk.proofs.Ready.{IsNext, boot-early, no-choice, none-left, none-waits, rests-quiet, rests-limit, takes-choice}
+use Rattle.em_desk.proofs.Taking.{after_take, block-next, told-next, take-is, receive_of, plain-next}
+use Rattle.em_desk.proofs.Reserved.{IsReserved, is-reserved, stands-reserved, plain-reserved, none-owed, takes-in, some-entries, not-first, boots-by, is-over, stands-boot, next-now, mintings-now, first-now, given-now, history-now, stands-take}
 use Rattle.em_desk.proofs.desk.Desk.take.Goals as goal
 
-first : (c : goal.After-told-2) → c.args.core.0 ≡ 0
-first c = core-first c.self.inside c.args.self.now c.self.invariant.pool c.args.core.0 c.self.view_is c.self.invariant.is c.requires.core
+-- a halted run
 
-log_same : (c : goal.After-told-2) → c.make_room.new.items.items ≡ c.self.inside.log.items
-log_same c = c.make_room.ensures.items
+room-halted : (c : goal.After-told) → IsReserved c.self.inside c.make_room.new.items c.reserve.new.self
+room-halted c =
+    let e = c.in_ok-reserve.ensures in
+    is-reserved c.self.inside c.make_room.new.items c.reserve.new.self c.make_room.ensures.items c.in_ok-make_room.ensures.room e.value e.keeps e.ok e.stands
 
-arrived_same : (c : goal.After-told-2) → c.make_room-3.new.items.items ≡ c.self.inside.arrived.items
-arrived_same c = c.make_room-3.ensures.items
+pub invariant_of-self-then-self : goal.invariant_of-self-then-self
+invariant_of-self-then-self c = stands-reserved c.self.inside c.make_room.new.items c.reserve.new.self c.self.invariant (room-halted c)
 
-log_room_now : (c : goal.After-told-2) → vec_len c.make_room.new.items + 259 ≤ vec_capacity c.make_room.new.items
-log_room_now c = c.in_ok-make_room.ensures.room
+pub returns-then-self-clause-owed : goal.returns-then-self-clause-owed
+returns-then-self-clause-owed c =
+    none-owed c.args.self.now (reverse c.make_room.new.items.items) c.args.core.0 Answer.Halted c.told.result
+    (plain-reserved c.self.inside c.make_room.new.items c.reserve.new.self c.self.invariant (room-halted c)) c.told.ensures
 
-held_room_now : (c : goal.After-told-2) → vec_len c.make_room-2.new.items + 259 ≤ vec_capacity c.make_room-2.new.items
-held_room_now c = c.in_ok-make_room-2.ensures.room
+-- boot
 
-arrived_room_now : (c : goal.After-told-2) → vec_len c.make_room-3.new.items + 259 ≤ vec_capacity c.make_room-3.new.items
-arrived_room_now c = c.in_ok-make_room-3.ensures.room
+room-boot : (c : goal.After-told-then-is_empty) → IsReserved c.self.inside c.make_room.new.items c.reserve.new.self
+room-boot c =
+    let e = c.in_ok-reserve.ensures in
+    is-reserved c.self.inside c.make_room.new.items c.reserve.new.self c.make_room.ensures.items c.in_ok-make_room.ensures.room e.value e.keeps e.ok e.stands
 
-some_entry : (c : goal.After-told-2) → (length (reverse c.self.inside.log.items) == 0) ≡ false
-some_entry c =
-    let as_long : vec_len c.make_room.new.items ≡ length (reverse c.self.inside.log.items) =
-    omega (arith, ap length (log_same c), length-reverse c.self.inside.log.items) in
-    let nonempty : (vec_len c.make_room.new.items == 0) ≡ false = cc in
-    subst (λ (n : ℕ). (n == 0) ≡ false) as_long nonempty
+pub invariant_of-self-then-is_empty : goal.invariant_of-self-then-is_empty
+invariant_of-self-then-is_empty c =
+    stands-boot c.self.inside c.make_room.new.items c.push_reserved.new.self c.reserve.new.self _ c.args.core.0 c.entry.result c.self.invariant (room-boot c)
+    (sym c.is_empty.ensures ∙ c.if-is_empty.true) c.if-core-gt0.false c.entry.ensures c.push_reserved.ensures.items c.push_reserved.ensures.capacity refl
 
-some_waits : (c : goal.After-told-2) → c.self.inside.started < length c.self.inside.arrived.items
-some_waits c =
-    let waits = c.self.invariant.keeps.some_wait in
-    omega (arith, ap length (arrived_same c), c.len.ensures, c.from-next.ensures)
+-- before boot has ended
 
-may_start : (c : goal.After-told-2) → c.self.inside.started < c.self.inside.limits.receives
-may_start c = let within = c.self.invariant.keeps.within in omega arith
+room-early : (c : goal.After-told-then-is_booting) → IsReserved c.self.inside c.make_room.new.items c.reserve.new.self
+room-early c =
+    let e = c.in_ok-reserve.ensures in
+    is-reserved c.self.inside c.make_room.new.items c.reserve.new.self c.make_room.ensures.items c.in_ok-make_room.ensures.room e.value e.keeps e.ok e.stands
 
-is_first : (c : goal.After-told-2) → c.index.result.now ≡ get_or c.self.inside.arrived.items c.self.inside.started c.index.result.now
-is_first c =
-    let at : c.from-next.result ≡ c.self.inside.started = c.from-next.ensures in
-    c.index.ensures
-    ∙ (ap (λ (n : ℕ). get_or c.make_room-3.new.items.items n c.index.result.now) at
-    ∙ ap (λ (xs : List Event). get_or xs c.self.inside.started c.index.result.now) (arrived_same c))
+pub invariant_of-self-then-is_booting : goal.invariant_of-self-then-is_booting
+invariant_of-self-then-is_booting c = stands-reserved c.self.inside c.make_room.new.items c.reserve.new.self c.self.invariant (room-early c)
 
-next : (c : goal.After-told-2) → IsNext c.self.invariant.pool c.self.inside.limits (reverse c.self.inside.log.items) c.index.result.now
-next c =
+pub returns-then-is_booting-clause-takes : goal.returns-then-is_booting-clause-takes
+returns-then-is_booting-clause-takes c =
+    let d = c.self.inside in
+    let past = reverse d.log.items in
+    let some = some-entries d c.make_room.new.items c.make_room.ensures.items (sym c.is_empty.ensures ∙ c.if-is_empty.false) in
+    let on = boots-by d c.as_slice.result.now c.is_booting.result true c.as_slice.ensures.value c.is_booting.ensures c.if-is_booting.true in
+    takes-in d c.args.self.now c.args.core.0 c.told-then-is_booting.result.answer (reverse c.make_room.new.items.items) c.self.view_is
+    (Early c.if-self.false (not-first c.args.core.0 past some)
+    (boot-early d.declarations d.limits past d.pools d.contexts.items d.waiting d.kept d.started c.self.invariant.keeps on)
+    (ap (λ (r : Reply). r.answer) c.told-then-is_booting.ensures) (ap reverse c.make_room.ensures.items))
+
+pub returns-then-is_booting-clause-owed : goal.returns-then-is_booting-clause-owed
+returns-then-is_booting-clause-owed c =
+    none-owed c.args.self.now (reverse c.make_room.new.items.items) c.args.core.0 Answer.Idle c.told-then-is_booting.result
+    (plain-reserved c.self.inside c.make_room.new.items c.reserve.new.self c.self.invariant (room-early c)) c.told-then-is_booting.ensures
+
+-- nothing waits
+
+room-quiet : (c : goal.After-told-in_default) → IsReserved c.self.inside c.make_room.new.items c.reserve.new.self
+room-quiet c =
+    let e = c.in_ok-reserve.ensures in
+    is-reserved c.self.inside c.make_room.new.items c.reserve.new.self c.make_room.ensures.items c.in_ok-make_room.ensures.room e.value e.keeps e.ok e.stands
+
+over-quiet : (c : goal.After-told-in_default) → boot_ended (reverse c.self.inside.log.items) ≡ true
+over-quiet c =
+    is-over c.self.inside c.make_room.new.items c.as_slice.result.now c.is_booting.result c.self.invariant c.make_room.ensures.items
+    (sym c.is_empty.ensures ∙ c.if-is_empty.false) c.as_slice.ensures.value c.is_booting.ensures c.if-is_booting.false
+
+pub invariant_of-self-in_default : goal.invariant_of-self-in_default
+invariant_of-self-in_default c = stands-reserved c.self.inside c.make_room.new.items c.reserve.new.self c.self.invariant (room-quiet c)
+
+pub returns-in_default-clause-takes : goal.returns-in_default-clause-takes
+returns-in_default-clause-takes c =
     let d = c.self.inside in
     let s = c.self.invariant in
     let past = reverse d.log.items in
-    let none : context past 0 ≡ None =
-    in_fields d c.args.self.now s.pool c.self.view_is s.is (λ k past. context past 0 ≡ None)
-    (subst (λ n. context c.args.self.now.past n ≡ None) (first c) c.requires.closed) in
-    let over = boot-over past d.in_context s.keeps.standing none (some_entry c) in
-    next-is s.pool d.limits past d.held.items d.arrived.items d.started d.in_context c.index.result.now s.keeps none over
-    (some_waits c) (may_start c) (is_first c)
+    let over = over-quiet c in
+    let shown : List Opening → Answer = λ os. if list_all is_closed os then Answer.Quiet else Answer.Idle in
+    let answer : c.told-in_default.result.answer ≡ shown d.contexts.items =
+    ap (λ (r : Reply). r.answer) c.told-in_default.ensures ∙ (c.rest.ensures ∙ ap shown c.as_slice-in_default.ensures.value) in
+    takes-in d c.args.self.now c.args.core.0 c.told-in_default.result.answer (reverse c.make_room.new.items.items) c.self.view_is
+    (Rests c.if-self.false over (no-step d.declarations past c.args.core.0 s.keeps.plain)
+    (no-choice d.declarations d.limits past c.args.core.0
+    (λ q lt. none-waits d.declarations d.limits past d.pools d.contexts.items d.waiting d.kept d.started c.args.core.0 q s.keeps lt (c.in_default.ensures q)))
+    (subst (RestAnswer d.declarations d.limits past) (sym answer)
+    (rests-quiet d.declarations d.limits past d.pools d.contexts.items d.waiting d.kept d.started s.keeps over c.in_default.ensures))
+    (ap reverse c.make_room.ensures.items))
 
-event_is : (c : goal.After-told-2) → c.minted_again-event.result ≡ again (reverse c.self.inside.log.items) c.index.result.now
-event_is c =
-    let log : c.as_slice.result.now ≡ c.self.inside.log.items = c.as_slice.ensures.value ∙ log_same c in
-    c.minted_again-event.ensures ∙ ap (λ (xs : List Entry). again (reverse xs) c.index.result.now) log
+pub returns-in_default-clause-owed : goal.returns-in_default-clause-owed
+returns-in_default-clause-owed c =
+    none-owed c.args.self.now (reverse c.make_room.new.items.items) c.args.core.0 c.rest.result c.told-in_default.result
+    (plain-reserved c.self.inside c.make_room.new.items c.reserve.new.self c.self.invariant (room-quiet c)) c.told-in_default.ensures
 
-new_log : (c : goal.After-told-2) → reverse c.push_reserved-3.new.self.items ≡ started_with (again (reverse c.self.inside.log.items) c.index.result.now) ∷ took ∷ reverse c.self.inside.log.items
-new_log c =
-    let x = c.index.result.now in
-    let past = reverse c.self.inside.log.items in
-    let one : reverse c.push_reserved-2.new.self.items ≡ took ∷ past =
-    appended c.make_room.new.items.items c.push_reserved-2.new.self.items c.entry-2.result c.push_reserved-2.ensures.items
-    ∙ (ap (λ (e : Entry). e ∷ reverse c.make_room.new.items.items) c.entry-2.ensures
-    ∙ ap (λ (xs : List Entry). took ∷ reverse xs) (log_same c)) in
-    appended c.push_reserved-2.new.self.items c.push_reserved-3.new.self.items c.entry-3.result c.push_reserved-3.ensures.items
-    ∙ (ap (λ (e : Entry). e ∷ reverse c.push_reserved-2.new.self.items) c.entry-3.ensures
-    ∙ (ap (λ (e : Event). started_with e ∷ reverse c.push_reserved-2.new.self.items) (c.copy.ensures ∙ event_is c)
-    ∙ ap (λ (h : Past). started_with (again past x) ∷ h) one))
+-- no receive is left
+
+room-limit : (c : goal.After-told-then-self-2) → IsReserved c.self.inside c.make_room.new.items c.reserve.new.self
+room-limit c =
+    let e = c.in_ok-reserve.ensures in
+    is-reserved c.self.inside c.make_room.new.items c.reserve.new.self c.make_room.ensures.items c.in_ok-make_room.ensures.room e.value e.keeps e.ok e.stands
+
+over-limit : (c : goal.After-told-then-self-2) → boot_ended (reverse c.self.inside.log.items) ≡ true
+over-limit c =
+    is-over c.self.inside c.make_room.new.items c.as_slice.result.now c.is_booting.result c.self.invariant c.make_room.ensures.items
+    (sym c.is_empty.ensures ∙ c.if-is_empty.false) c.as_slice.ensures.value c.is_booting.ensures c.if-is_booting.false
+
+next-limit : (c : goal.After-told-then-self-2) → IsNext c.self.inside.declarations (reverse c.self.inside.log.items) c.self.inside.waiting c.args.core.0 c.in-Some.number
+next-limit c =
+    let found = c.in-Some.ensures in
+    next-now c.self.inside c.args.self.now c.args.core.0 c.in-Some.number c.self.invariant c.self.view_is c.requires.core c.requires.closed (over-limit c) found.0 found.1.0
+
+pub invariant_of-self-then-self-2 : goal.invariant_of-self-then-self-2
+invariant_of-self-then-self-2 c = stands-reserved c.self.inside c.make_room.new.items c.reserve.new.self c.self.invariant (room-limit c)
+
+pub returns-then-self-2-clause-takes : goal.returns-then-self-2-clause-takes
+returns-then-self-2-clause-takes c =
+    let d = c.self.inside in
+    let s = c.self.invariant in
+    let past = reverse d.log.items in
+    let shown : List Opening → Answer = λ os. if list_all is_closed os then Answer.Limit else Answer.Idle in
+    let answer : c.told-then-self-2.result.answer ≡ shown d.contexts.items =
+    ap (λ (r : Reply). r.answer) c.told-then-self-2.ensures ∙ (c.rest-then-self-2.ensures ∙ ap shown c.as_slice-then-self-2.ensures.value) in
+    takes-in d c.args.self.now c.args.core.0 c.told-then-self-2.result.answer (reverse c.make_room.new.items.items) c.self.view_is
+    (Rests c.if-self.false (over-limit c) (no-step d.declarations past c.args.core.0 s.keeps.plain)
+    (none-left d.declarations d.limits past d.pools d.contexts.items d.waiting d.kept d.started c.args.core.0 s.keeps c.if-self-2.true)
+    (subst (RestAnswer d.declarations d.limits past) (sym answer)
+    (rests-limit d.declarations d.limits past d.pools d.contexts.items d.waiting d.kept d.started c.args.core.0 c.in-Some.number s.keeps c.if-self-2.true (next-limit c).may))
+    (ap reverse c.make_room.ensures.items))
+
+pub returns-then-self-2-clause-owed : goal.returns-then-self-2-clause-owed
+returns-then-self-2-clause-owed c =
+    none-owed c.args.self.now (reverse c.make_room.new.items.items) c.args.core.0 c.rest-then-self-2.result c.told-then-self-2.result
+    (plain-reserved c.self.inside c.make_room.new.items c.reserve.new.self c.self.invariant (room-limit c)) c.told-then-self-2.ensures
+
+-- a take
+
+room-start : (c : goal.After-start-arg-3-1) → IsReserved c.self.inside c.make_room.new.items c.reserve.new.self
+room-start c =
+    let e = c.in_ok-reserve.ensures in
+    is-reserved c.self.inside c.make_room.new.items c.reserve.new.self c.make_room.ensures.items c.in_ok-make_room.ensures.room e.value e.keeps e.ok e.stands
+
+over-start : (c : goal.After-start-arg-3-1) → boot_ended (reverse c.self.inside.log.items) ≡ true
+over-start c =
+    is-over c.self.inside c.make_room.new.items c.as_slice.result.now c.is_booting.result c.self.invariant c.make_room.ensures.items
+    (sym c.is_empty.ensures ∙ c.if-is_empty.false) c.as_slice.ensures.value c.is_booting.ensures c.if-is_booting.false
+
+next-start : (c : goal.After-start-arg-3-1) → IsNext c.self.inside.declarations (reverse c.self.inside.log.items) c.self.inside.waiting c.args.core.0 c.in-Some.number
+next-start c =
+    let found = c.in-Some.ensures in
+    next-now c.self.inside c.args.self.now c.args.core.0 c.in-Some.number c.self.invariant c.self.view_is c.requires.core c.requires.closed (over-start c) found.0 found.1.0
+
+pub start-event-requires-clause-mintings : goal.start-event-requires-clause-mintings
+start-event-requires-clause-mintings c = mintings-now c.self.inside c.make_room.new.items c.reserve.new.self c.self.invariant (room-start c)
+
+pub start-event-requires-clause-first : goal.start-event-requires-clause-first
+start-event-requires-clause-first c =
+    let found = c.in-Some.ensures in
+    first-now c.self.inside c.make_room.new.items c.reserve.new.self c.args.core.0 c.in-Some.number c.self.invariant (room-start c) found.0 (next-start c)
+
+room-take : (c : goal.After-told-2) → IsReserved c.self.inside c.make_room.new.items c.reserve.new.self
+room-take c =
+    let e = c.in_ok-reserve.ensures in
+    is-reserved c.self.inside c.make_room.new.items c.reserve.new.self c.make_room.ensures.items c.in_ok-make_room.ensures.room e.value e.keeps e.ok e.stands
+
+over-take : (c : goal.After-told-2) → boot_ended (reverse c.self.inside.log.items) ≡ true
+over-take c =
+    is-over c.self.inside c.make_room.new.items c.as_slice.result.now c.is_booting.result c.self.invariant c.make_room.ensures.items
+    (sym c.is_empty.ensures ∙ c.if-is_empty.false) c.as_slice.ensures.value c.is_booting.ensures c.if-is_booting.false
+
+next-take : (c : goal.After-told-2) → IsNext c.self.inside.declarations (reverse c.self.inside.log.items) c.self.inside.waiting c.args.core.0 c.in-Some.number
+next-take c =
+    let found = c.in-Some.ensures in
+    next-now c.self.inside c.args.self.now c.args.core.0 c.in-Some.number c.self.invariant c.self.view_is c.requires.core c.requires.closed (over-take c) found.0 found.1.0
+
+given-take : (c : goal.After-told-2) → c.start-event.result ≡ item_again (reverse c.self.inside.log.items) (next-take c).may.item
+given-take c =
+    given-now c.self.inside c.make_room.new.items c.reserve.new.self c.args.core.0 c.in-Some.number c.start-event.result c.self.invariant (room-take c)
+    (next-take c) c.start-event.ensures.event
+
+history-take : (c : goal.After-told-2)
+    → reverse c.start-event.new.log.items ≡ after_take (reverse c.self.inside.log.items) c.args.core.0 (record { 0 = c.in-Some.number }) c.start-event.result
+history-take c =
+    history-now c.self.inside c.make_room.new.items c.start-event.new.log c.args.core.0 (record { 0 = c.in-Some.number }) c.start-event.result
+    c.make_room.ensures.items c.start-event.ensures.log
 
 pub invariant_of-self-2 : goal.invariant_of-self-2
 invariant_of-self-2 c =
     let d = c.self.inside in
     let s = c.self.invariant in
-    let x = c.index.result.now in
-    let past = reverse d.log.items in
-    let keeps = take-keeps s.pool d.limits past d.held.items d.arrived.items d.started d.in_context x s.keeps (some_waits c) (may_start c) (next c) in
-    let new = new_log c in
-    let none : c.clear.new.self.items ≡ [] = c.clear.ensures.items in
-    let held : c.push_reserved-4.new.self.items ≡ (again past x).handle.0 ∷ [] =
-    c.push_reserved-4.ensures.items
-    ∙ (ap (λ (hs : List ℕ). hs ++ c.minted_again-event.result.handle.0 ∷ []) none
-    ∙ ap (λ (e : Event). e.handle.0 ∷ []) (event_is c)) in
-    let arrived = arrived_same c in
-    let log_room = log_room_now c in
-    let held_room = held_room_now c in
-    let arrived_room = arrived_room_now c in
-    record {
-      pool = s.pool;
-      is = s.is;
-      keeps = rw (new, held, arrived) keeps;
-      log_room = rw new (omega (arith, c.push_reserved-2.ensures.len, c.push_reserved-2.ensures.capacity, c.push_reserved-3.ensures.len, c.push_reserved-3.ensures.capacity));
-      held_room = rw new (omega (arith, c.clear.ensures.len, c.clear.ensures.capacity, c.push_reserved-4.ensures.len, c.push_reserved-4.ensures.capacity));
-      arrived_room = rw new (omega arith);
-    }
+    let steps = pool_steps d.declarations (reverse d.log.items) in
+    let core = c.args.core.0 in
+    let x = next-take c in
+    let r = room-take c in
+    let set = ap (λ n. slice_set d.contexts.items n (Opening.Receive c.object_of-object.result)) c.from.ensures
+    ∙ ap (λ (o : EoId). slice_set d.contexts.items core (Opening.Receive o)) c.object_of-object.ensures in
+    stands-take d c.make_room.new.items c.start-event.new.log c.reserve.new.self c.start-event.new.pools c.start-event.new.waiting _ core
+    (record { 0 = c.in-Some.number }) c.start-event.result s r x c.if-self-2.false (given-take c)
+    (c.start-event.ensures.stands steps x.index x.more (r.stands steps s.keeps.pools) x.is)
+    c.start-event.ensures.shapes c.start-event.ensures.spent c.start-event.ensures.lists c.start-event.ensures.line_room c.start-event.ensures.log
+    c.start-event.ensures.capacity set
 
 pub returns-clause-takes : goal.returns-clause-takes
 returns-clause-takes c =
     let d = c.self.inside in
     let s = c.self.invariant in
-    let x = c.index.result.now in
-    let past : Past = reverse d.log.items in
-    let n = next c in
-    let shown : Event → Answer = λ e. Answer.Context (receive_of e) in
-    let answer : c.told-2.result.answer ≡ shown (again past x) =
-    ap (λ (r : Reply). r.answer) c.told-2.ensures ∙ (c.received.ensures ∙ ap shown (event_is c)) in
-    let now : reverse c.push_reserved-3.new.self.items ≡ block (simple s.pool) past took = new_log c ∙ sym (block-next s.pool d.limits past x n) in
-    let told = subst (λ (h : Past). context_told (simple s.pool) h 0 ≡ Some (receive_of (again past x))) (sym (new_log c)) (told-next s.pool d.limits past x n) in
-    let takes : Takes (simple s.pool) d.limits d.halted past 0 c.told-2.result.answer (reverse c.push_reserved-3.new.self.items) =
-    Receives 0 (receive_of (again past x)) c.if-self.false n.over (no-step s.pool past s.keeps.stays.operations) n.choice now told answer in
-    let t = c.args.self.now in
-    subst (λ (m : ℕ). Takes t.declarations t.limits t.halted t.past m c.told-2.result.answer (reverse c.push_reserved-3.new.self.items)) (sym (first c))
-    (subst (λ (t : DeskState). Takes t.declarations t.limits t.halted t.past 0 c.told-2.result.answer (reverse c.push_reserved-3.new.self.items)) c.self.view_is
-    (subst (λ (k : Declarations). Takes k d.limits d.halted past 0 c.told-2.result.answer (reverse c.push_reserved-3.new.self.items)) (sym s.is) takes))
+    let k = d.declarations in
+    let past = reverse d.log.items in
+    let core = c.args.core.0 in
+    let q : QueueId = record { 0 = c.in-Some.number } in
+    let event = c.start-event.result in
+    let x = next-take c in
+    let within = s.keeps.within in
+    let more : d.started < d.limits.receives = (let differs = c.if-self-2.false in omega arith) in
+    let now = history-take c ∙ (ap (after_take past core q) (given-take c) ∙ (sym (block-next k past d.waiting core q x)
+    ∙ ap (λ (w : What). block k past (entry_by core w)) (sym (take-is k d.limits past core q s.keeps.simple s.keeps.plain x.may.core x.may.queue)))) in
+    let told = subst (λ (h : Past). context_told k h core ≡ Some (receive_of q (object_id (object_of k q.0)) event)) (sym (history-take c))
+    (told-next k past core q event s.keeps.simple s.keeps.plain x.may) in
+    let answer : c.told-2.result.answer ≡ Answer.Context (receive_of q (object_id (object_of k q.0)) event) =
+    ap (λ (r : Reply). r.answer) c.told-2.ensures
+    ∙ (c.received.ensures ∙ ap (λ (o : EoId). Answer.Context (receive_of q o event)) c.object_of-object.ensures) in
+    takes-in d c.args.self.now core c.told-2.result.answer (reverse c.start-event.new.log.items) c.self.view_is
+    (Receives q.0 (receive_of q (object_id (object_of k q.0)) event) c.if-self.false (over-take c) (no-step k past core s.keeps.plain)
+    (takes-choice k d.limits past d.pools d.contexts.items d.waiting d.kept d.started core q.0 s.keeps more x.may) now told answer)
+
+pub returns-clause-owed : goal.returns-clause-owed
+returns-clause-owed c =
+    none-owed c.args.self.now (reverse c.start-event.new.log.items) c.args.core.0 c.received.result c.told-2.result
+    (subst ArePlain (sym (history-take c)) (plain-next (reverse c.self.inside.log.items) c.args.core.0 _ c.start-event.result c.self.invariant.keeps.plain))
+    c.told-2.ensures
