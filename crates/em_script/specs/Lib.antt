@@ -1,0 +1,13 @@
+pub mod Lines
+pub mod Numerals
+pub mod Names
+pub mod Form
+pub mod Expressions
+pub mod Words
+pub mod Statements
+pub mod Declarations
+pub mod State
+pub mod Judging
+pub mod Reading
+pub mod Spelling
+pub mod Scripts
