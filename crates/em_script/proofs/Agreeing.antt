@@ -1,5 +1,5 @@
 -- The names that were read stand for what the graph declares under them.
-use Rattle.std.proofs.Common.{◌≡◌, ℕ, zero, suc, ◌+◌, ◌<◌, ◌≤◌, Bool, true, false, cond, List, [], ◌∷◌, ◌++◌, length, Option, Some, None, refl, sym, ap, subst, ◌∙◌, arith, inl, inr, ◌⊎◌, length-append}
+use Rattle.std.proofs.Common.{◌≡◌, ℕ, zero, suc, ◌<◌, ◌≤◌, Bool, true, false, cond, List, [], ◌∷◌, ◌++◌, length, Option, Some, None, refl, sym, ap, subst, ◌∙◌, arith, inl, inr, ◌⊎◌, length-append}
 use Rattle.std.specs.Prelude.{codes, slice_get, slice_set}
 use Rattle.std.specs.Option.{option_map, option_map_or}
 use Rattle.std.proofs.Common.{Ordering, Less, Equal, Greater}
@@ -7,7 +7,6 @@ use Rattle.std.specs.Ordering.{nat_cmp, is_eq}
 use Rattle.std.specs.Cmp.Lexicographic.{slice_cmp}
 use Rattle.std.specs.FinMap as map
 use Rattle.std.specs.FinMap.{get-insert, get-empty}
-use Rattle.std.proofs.lemmas.Bool.{cases_Bool}
 use Rattle.std.proofs.lemmas.Cmp.{nat_list_cmp_total}
 use Rattle.std.proofs.lemmas.Map.Lookups.{exact_bytes}
 use Rattle.em_log.specs.declared.body.Stmt.{Stmt}
@@ -24,7 +23,7 @@ use Rattle.em_script.specs.declared.line.Place.TheVariants as places
 use Rattle.em_script.specs.declared.phase.Phase.{Phase}
 use Rattle.em_script.specs.declared.phase.Phase.TheVariants as phases
 use Rattle.em_script.specs.declared.draft.Frame.{Frame}
-use Rattle.em_script.specs.Names.{Table, name_in, group_name, first_table}
+use Rattle.em_script.specs.Names.{Table, name_in, group_name}
 use Rattle.em_script.specs.State.{State, first_state, after, ended, turned, body_ended, with_body, with_body_at, with_part, new_eo}
 use Rattle.em_script.proofs.Binds.{some-is}
 use Rattle.em_script.proofs.Table.{same_key}

@@ -1,6 +1,6 @@
 -- Names are ASCII.
 use Rattle.std.proofs.Common.{◌≡◌, ◌<◌, ℕ, zero, suc, Bool, List, [], ◌∷◌, true, false, refl, arith}
-use Rattle.std.specs.Prelude.{IsTrue, ◌&&◌, length, nat_le, not}
+use Rattle.std.specs.Prelude.{◌&&◌, length, nat_le, not}
 use Rattle.std.specs.List.{list_all}
 use Rattle.std.specs.Str.{IsAscii, IsUtf8}
 use Rattle.std.proofs.lemmas.Bool.Decides.{nat_tests}

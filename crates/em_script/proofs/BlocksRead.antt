@@ -10,12 +10,11 @@ use Rattle.em_log.specs.declared.body.Stmt.TheVariants as stmt
 use Rattle.em_log.specs.declared.body.Stmt.TheVariants.{rolls-If, rolls-Repeat}
 use Rattle.em_log.specs.declared.body.Stmt.TheViews.{out-Stmt, roll-Stmt, roll-out-Stmt}
 use Rattle.em_log.specs.declared.graph.Config.{Config}
-use Rattle.em_script.specs.declared.draft.Frame.{Frame}
 use Rattle.em_script.specs.declared.draft.Opened.TheVariants as opened
 use Rattle.em_script.specs.declared.line.Line.{Line}
 use Rattle.em_script.specs.declared.line.Line.TheVariants as lines
-use Rattle.em_script.specs.Spelling.{statement_lines, row_lines, block_lines, else_lines}
-use Rattle.em_script.specs.State.{State, after, after_all, opened_by, turned}
+use Rattle.em_script.specs.Spelling.{statement_lines, row_lines, else_lines}
+use Rattle.em_script.specs.State.{State, after, after_all, opened_by}
 use Rattle.em_script.proofs.Ascii.{both}
 
 pub after_all-append : (xs ys : List Line) (s : State) → after_all (xs ++ ys) s ≡ after_all ys (after_all xs s)

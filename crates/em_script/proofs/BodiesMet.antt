@@ -1,22 +1,18 @@
 -- The lines of the bodies of a graph, and the last line, break no rule that the state decides.
-use Rattle.std.proofs.Common.{◌≡◌, ℕ, suc, ◌+◌, ◌≤◌, Bool, true, false, not, ◌&&◌, List, [], ◌∷◌, ◌++◌, length, map, Option, Some, None, refl, sym, ap, subst, ◌∙◌, append_assoc, arith, length-append}
+use Rattle.std.proofs.Common.{◌≡◌, ℕ, suc, Bool, true, false, not, List, [], ◌∷◌, ◌++◌, length, map, Option, Some, None, refl, sym, ap, subst, ◌∙◌, append_assoc, arith, length-append}
 use Rattle.std.specs.List.{flat_map, list_all}
-use Rattle.std.specs.Option.{option_map_or, option_or}
-use Rattle.std.specs.Prelude.{nat_le, slice_get}
-use Rattle.em_log.specs.Weights.{weight_of, steps_of}
-use Rattle.em_log.specs.WellFormed.{Where, IsWellFormed, are_bodies, are_given, is_body, is_error_body, is_statement}
+use Rattle.em_log.specs.WellFormed.{are_given}
 use Rattle.em_log.specs.declared.body.Stmt.{Stmt}
 use Rattle.em_log.specs.declared.graph.Config.{Config}
 use Rattle.em_log.specs.declared.graph.EoDecl.{EoDecl}
 use Rattle.em_script.specs.declared.line.Line.TheVariants as lines
 use Rattle.em_script.specs.declared.line.Part.{Part}
 use Rattle.em_script.specs.declared.line.Part.TheVariants as parts
-use Rattle.em_script.specs.declared.line.Place.{Place}
 use Rattle.em_script.specs.declared.line.Place.TheVariants as places
-use Rattle.em_script.specs.Judging.{are_light, has_part, is_given, is_light, is_light_error, is_light_object, rule_of, unless, where_of}
+use Rattle.em_script.specs.Judging.{has_part, is_given}
 use Rattle.em_script.specs.Names.{Table}
 use Rattle.em_script.specs.Spelling.{Placed, block_lines, body_lines, bodies_of, bodies_of_object, bodies_of_objects, optional_body, written_body}
-use Rattle.em_script.specs.State.{State, after, after_all, with_body}
+use Rattle.em_script.specs.State.{with_body}
 use Rattle.em_script.proofs.Ascii.{both}
 use Rattle.em_script.proofs.BodiesRead.{AreBlocks, IsBlock, bare, between, body_read, error_read, given-of, inside, lstart_read, lstop_read, object_at, object_read, receive_read, start_read, stop_read, unwritten, with-lstart, with-lstop, with-receive, with-start, with-stop, with_bodies, with_object}
 use Rattle.em_script.proofs.RulesMet.{AreMet, AreMet-append, block_lines_met, unless-met}

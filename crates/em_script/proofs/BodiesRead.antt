@@ -1,7 +1,7 @@
 -- The lines of bodies, read: each body comes to its place.
-use Rattle.std.proofs.Common.{◌≡◌, ℕ, zero, suc, ◌+◌, ◌<◌, Bool, true, false, ◌&&◌, ◌||◌, List, [], ◌∷◌, ◌++◌, length, map, get_or, Option, Some, None, refl, sym, ap, ◌∙◌, append_assoc, append-nil, arith, length-append}
+use Rattle.std.proofs.Common.{◌≡◌, ℕ, suc, ◌<◌, Bool, true, false, ◌&&◌, ◌||◌, List, [], ◌∷◌, ◌++◌, length, map, Option, Some, None, refl, sym, ap, ◌∙◌, append_assoc, append-nil, arith, length-append}
 use Rattle.std.specs.List.{flat_map, list_all}
-use Rattle.std.specs.Prelude.{slice_get, slice_set}
+use Rattle.std.specs.Prelude.{slice_get}
 use Rattle.std.proofs.lemmas.Option.{slice_get-get_or}
 use Rattle.std.proofs.Math.Seq.{set-append_seam, get_or-append_seam}
 use Rattle.em_log.specs.WellFormed.{Where, is_statement, is_unwritten, are_given}
@@ -17,7 +17,7 @@ use Rattle.em_script.specs.declared.phase.Phase.TheVariants as phases
 use Rattle.em_script.specs.Judging.{where_of}
 use Rattle.em_script.specs.Names.{Table}
 use Rattle.em_script.specs.Spelling.{Placed, statement_lines, block_lines, body_lines, written_body, optional_body, bodies_of, bodies_of_object, bodies_of_objects}
-use Rattle.em_script.specs.State.{State, after, after_all, is_boot, new_eo, with_body, with_body_at, with_part}
+use Rattle.em_script.specs.State.{State, after_all, is_boot, new_eo, with_body, with_body_at, with_part}
 use Rattle.em_script.proofs.Ascii.{both}
 use Rattle.em_script.proofs.BlocksRead.{after_all-append, extended, statement_read}
 

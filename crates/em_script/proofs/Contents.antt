@@ -1,9 +1,9 @@
 -- What is declared is as a graph may declare it: pools, queue groups and atomic groups.
-use Rattle.std.proofs.Common.{◌≡◌, ℕ, zero, suc, ◌+◌, ◌-◌, ◌^◌, ◌<◌, ◌≤◌, Bool, true, false, eqb, ltb, leb, List, [], ◌∷◌, ◌++◌, length, refl, sym, ap, subst, ◌∙◌, arith, length-append, le-leb, lt-ltb, leb-true}
+use Rattle.std.proofs.Common.{◌≡◌, ℕ, ◌-◌, ◌^◌, ◌≤◌, Bool, true, eqb, ltb, leb, List, [], ◌∷◌, ◌++◌, length, refl, ap, arith, length-append, le-leb, lt-ltb, leb-true}
 use Rattle.std.specs.Prelude.{not, ◌&&◌}
 use Rattle.std.specs.List.{list_all}
 use Rattle.std.proofs.lemmas.Bool.{ne_eqb}
-use Rattle.em_log.specs.WellFormed.{is_pool, is_group, is_group_number}
+use Rattle.em_log.specs.WellFormed.{is_pool, is_group}
 use Rattle.em_log.specs.declared.graph.Config.{Config}
 use Rattle.em_log.specs.declared.graph.PoolDecl.{PoolDecl}
 use Rattle.em_log.specs.declared.graph.GroupDecl.{GroupDecl}
@@ -18,6 +18,7 @@ use Rattle.em_script.specs.declared.phase.Phase.{Phase}
 use Rattle.em_script.specs.declared.phase.Phase.TheVariants as phases
 use Rattle.em_script.specs.Names.{Naming}
 use Rattle.em_script.specs.State.{State, first_state, after, ended, turned, body_ended, with_body}
+use Rattle.em_script.proofs.Forms.{and-both, and-true}
 use Rattle.em_script.proofs.Standing.{declares, tells_cores}
 use Rattle.em_script.proofs.DeclarationForms.{TopFits}
 
@@ -27,22 +28,14 @@ pub record AreGood (g : Config) : Type 0 where
   pub groups : list_all (is_group g.cores) g.groups ≡ true
   pub agroups : list_all (λ d. leb d.group.0 (length g.groups)) g.agroups ≡ true
 
-and-both : (a b : Bool) → a ≡ true → b ≡ true → (a && b) ≡ true
-and-both true b p q = q
-and-both false b p q = absurd cc
-
-and-parts : (a b : Bool) → (a && b) ≡ true → (a ≡ true) × (b ≡ true)
-and-parts true b e = (refl, e)
-and-parts false b e = absurd cc
-
-all-more : {A : Type 0} (p : A → Bool) (xs : List A) (y : A) → list_all p xs ≡ true → p y ≡ true → list_all p (xs ++ y ∷ []) ≡ true
+pub all-more : {A : Type 0} (p : A → Bool) (xs : List A) (y : A) → list_all p xs ≡ true → p y ≡ true → list_all p (xs ++ y ∷ []) ≡ true
 all-more p [] y h e = and-both (p y) true e refl
-all-more p (x ∷ xs) y h e = let k = and-parts (p x) (list_all p xs) h in and-both (p x) (list_all p (xs ++ y ∷ [])) k.0 (all-more p xs y k.1 e)
+all-more p (x ∷ xs) y h e = let k = and-true (p x) (list_all p xs) h in and-both (p x) (list_all p (xs ++ y ∷ [])) k.0 (all-more p xs y k.1 e)
 
 agroups-grow : (ds : List AgroupDecl) (n m : ℕ) → n ≤ m → list_all (λ d. leb d.group.0 n) ds ≡ true → list_all (λ d. leb d.group.0 m) ds ≡ true
 agroups-grow [] n m le h = refl
 agroups-grow (d ∷ ds) n m le h =
-    let k = and-parts (leb d.group.0 n) (list_all (λ d. leb d.group.0 n) ds) h in
+    let k = and-true (leb d.group.0 n) (list_all (λ d. leb d.group.0 n) ds) h in
     let small = leb-true d.group.0 n k.0 in
     and-both (leb d.group.0 m) (list_all (λ d. leb d.group.0 m) ds) (le-leb d.group.0 m (omega arith)) (agroups-grow ds n m le k.1)
 

@@ -1,6 +1,6 @@
 -- The number of cores that a line may tell.
-use Rattle.std.proofs.Common.{◌≡◌, ℕ, ◌≤◌, Bool, true, false, cond, List, [], ◌∷◌, leb, None, Some, Option, refl, sym, ap, subst, ◌∙◌, arith}
-use Rattle.std.specs.Prelude.{◌&&◌, nat_le}
+use Rattle.std.proofs.Common.{◌≡◌, ℕ, ◌≤◌, Bool, true, false, cond, List, [], ◌∷◌, leb, None, Some, Option, refl, ap, subst, arith}
+use Rattle.std.specs.Prelude.{◌&&◌}
 use Rattle.std.proofs.lemmas.Bool.{leb-true}
 use Rattle.em_script.specs.declared.line.Line.{Line}
 use Rattle.em_script.specs.declared.line.Line.TheVariants as lines
@@ -22,7 +22,7 @@ use Rattle.em_script.specs.Form.{ended as nothing_left}
 use Rattle.em_script.specs.Form.{◌>>=◌, given, number, read_number, number_of, token_at, new_name}
 use Rattle.em_script.specs.Words.{kind, top_word, body_word}
 use Rattle.em_script.specs.Declarations.{queue_behind, read_queue, top_line_behind, read_top_line, may_stand, cores_form}
-use Rattle.em_script.specs.Statements.{body_line_behind, else_behind, read_body_line}
+use Rattle.em_script.specs.Statements.{body_line_behind, read_body_line}
 use Rattle.em_script.specs.State.{State, after, ended, turned, body_ended}
 use Rattle.em_script.specs.Judging.{judge, read_by_phase, may_else}
 use Rattle.em_script.proofs.Binds.{bind-some, given-some, test-some, cond-some, some-is}
@@ -155,11 +155,11 @@ body_ended-cores (phases.Body places.Error) s = refl
 body_ended-cores (phases.Body (places.Object eo p)) s = refl
 body_ended-cores phases.Done s = refl
 
-ended-cores : (nest : List Frame) (s : State) → (ended nest s).graph.cores ≡ s.graph.cores
+pub ended-cores : (nest : List Frame) (s : State) → (ended nest s).graph.cores ≡ s.graph.cores
 ended-cores [] s = body_ended-cores s.phase s
 ended-cores (f ∷ fs) s = refl
 
-turned-cores : (nest : List Frame) (s : State) → (turned nest s).graph.cores ≡ s.graph.cores
+pub turned-cores : (nest : List Frame) (s : State) → (turned nest s).graph.cores ≡ s.graph.cores
 turned-cores [] s = refl
 turned-cores (f ∷ fs) s = refl
 

@@ -1,5 +1,5 @@
 -- The lines of declarations, read: each adds one declaration.
-use Rattle.std.proofs.Common.{◌≡◌, ℕ, zero, suc, ◌+◌, ◌<◌, ◌≤◌, Bool, true, false, ◌&&◌, List, [], ◌∷◌, ◌++◌, length, map, take, get_or, Option, Some, None, refl, sym, ap, ◌∙◌, append_assoc, append-nil, arith, eqb-true}
+use Rattle.std.proofs.Common.{◌≡◌, ℕ, suc, ◌+◌, ◌<◌, ◌≤◌, true, false, ◌&&◌, List, [], ◌∷◌, ◌++◌, length, map, take, get_or, Some, None, sym, ap, ◌∙◌, append_assoc, append-nil, arith, eqb-true}
 use Rattle.std.specs.FinMap as map
 use Rattle.std.specs.List.{flat_map}
 use Rattle.std.specs.Option.{option_map_or}
@@ -15,12 +15,11 @@ use Rattle.em_log.specs.declared.graph.EoDecl.{EoDecl}
 use Rattle.em_log.specs.declared.graph.GroupDecl.{GroupDecl}
 use Rattle.em_log.specs.declared.graph.PoolDecl.{PoolDecl}
 use Rattle.em_log.specs.declared.graph.QueueDecl.{QueueDecl}
-use Rattle.em_script.specs.declared.line.Line.TheVariants as lines
 use Rattle.em_script.specs.declared.named.Named.TheVariants as named
 use Rattle.em_script.specs.declared.phase.Phase.TheVariants as phases
 use Rattle.em_script.specs.Names.{Table}
 use Rattle.em_script.specs.Spelling.{declared_lines}
-use Rattle.em_script.specs.State.{State, after, after_all}
+use Rattle.em_script.specs.State.{State, after_all}
 use Rattle.em_script.proofs.Ascii.{both}
 use Rattle.em_script.proofs.BlocksRead.{after_all-append}
 use Rattle.em_script.proofs.BodiesRead.{bare, unwritten}

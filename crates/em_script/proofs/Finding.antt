@@ -1,14 +1,13 @@
 -- What is found from a line on, by what the line comes to.
-use Rattle.std.proofs.Common.{◌≡◌, ℕ, ◌+◌, List, [], ◌∷◌, Result, Ok, Err, true, false, cond, refl, ap, ◌∙◌, ◌≢◌}
+use Rattle.std.proofs.Common.{◌≡◌, ℕ, ◌+◌, List, [], ◌∷◌, Ok, Err, false, cond, refl, ap, ◌≢◌}
 use Rattle.em_script.specs.declared.phase.Phase.{Phase}
 use Rattle.em_script.specs.declared.phase.Phase.TheVariants as phases
-use Rattle.em_log.specs.declared.graph.Config.{Config}
 use Rattle.em_script.specs.declared.line.Line.{Line}
 use Rattle.em_script.specs.declared.judging.Judged.TheVariants as judgments
 use Rattle.em_script.specs.Lines.{lines}
 use Rattle.em_script.specs.State.{State, first_state, after}
 use Rattle.em_script.specs.Judging.{judge}
-use Rattle.em_script.specs.Reading.{Found, followed, found_from, is_done, script_of}
+use Rattle.em_script.specs.Reading.{followed, found_from, is_done, script_of}
 
 pub found-end : (number : ℕ) (s : State) → found_from number s [] ≡ cond (is_done s.phase) (Ok s.graph) (Err (number, 11))
 unfolding found_from

@@ -16,14 +16,10 @@ use Rattle.em_script.specs.declared.named.Named.TheVariants as named
 use Rattle.em_script.specs.Names.{Naming}
 use Rattle.em_script.specs.Expressions.{symbols_of}
 use Rattle.em_script.specs.Judging.{may_stand_at}
-use Rattle.em_script.proofs.Forms.{All-append, and-true}
+use Rattle.em_script.proofs.Forms.{All-append, and-both, and-true}
 use Rattle.em_script.proofs.NameForms.{IsKnown}
 use Rattle.em_script.proofs.ExpressionForm.{SymbolFits, ExprFits}
 use Rattle.em_script.proofs.StatementForms.{NoteFits, NotesFit, WordsFit, StmtFits}
-
-and-both : (a b : Bool) → a ≡ true → b ≡ true → (a && b) ≡ true
-and-both true b p q = q
-and-both false b p q = absurd cc
 
 All-parts : {A : Type 0} (P : A → Type 0) (xs ys : List A) → AllByRecursion P (xs ++ ys) → AllByRecursion P xs × AllByRecursion P ys
 All-parts P [] ys h = (tt, h)

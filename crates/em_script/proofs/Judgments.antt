@@ -1,14 +1,12 @@
 -- What is known of a line that says something.
-use Rattle.std.proofs.Common.{◌≡◌, ℕ, zero, suc, ◌+◌, ◌≤◌, Bool, true, false, cond, eqb, List, [], ◌∷◌, length, Option, Some, None, min, refl, sym, ap, ◌∙◌, arith, eqb-true}
-use Rattle.std.specs.List.{list_all}
+use Rattle.std.proofs.Common.{◌≡◌, ℕ, ◌≤◌, Bool, true, false, cond, eqb, List, Option, Some, None, min, refl, sym, ap, ◌∙◌, arith, eqb-true}
 use Rattle.em_script.specs.declared.line.Line.{Line}
 use Rattle.em_script.specs.declared.line.Line.TheVariants as lines
-use Rattle.em_script.specs.declared.phase.Phase.{Phase}
 use Rattle.em_script.specs.declared.judging.Judged.{Judged}
 use Rattle.em_script.specs.declared.judging.Judged.TheVariants as judgments
 use Rattle.em_script.specs.Lines.{Rest, is_plain_line, tokens}
 use Rattle.em_script.specs.State.{State}
-use Rattle.em_script.specs.Judging.{unless, rule_of, told, resolved, is_skipped, judge, judge_tokens, read_by_phase, is_given, may_stand_in, are_light}
+use Rattle.em_script.specs.Judging.{unless, rule_of, told, resolved, is_skipped, judge, judge_tokens, read_by_phase}
 
 -- a line as it is before anything of it is read
 abbrev pub whole : List (List ℕ) → Rest

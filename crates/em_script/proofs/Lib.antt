@@ -36,6 +36,14 @@ pub mod DeclarationForms
 pub mod BothWays
 pub mod Fitting
 pub mod Taken
+pub mod Told
+pub mod CoresTold
+pub mod OpenBodies
+pub mod BodiesGood
+pub mod WellFound
+pub mod QueuesGood
+pub mod OrderKept
+pub mod NamesApart
 pub mod Lowering
 pub mod QueueFitting
 pub mod Limits
@@ -59,3 +67,9 @@ pub mod NamesRead
 pub mod NamesKnown
 pub mod Distinct
 pub mod NamesDistinct
+pub mod LineSpelled
+pub mod BlocksSpelled
+pub mod Declaring
+pub mod DeclarationsSpelled
+pub mod BodiesSpelled
+pub mod ScriptSpelled

@@ -1,12 +1,10 @@
 -- Reading never raises the least rule that has failed.
-use Rattle.std.proofs.Common.{◌≡◌, ℕ, zero, suc, ◌+◌, ◌<◌, ◌≤◌, Bool, true, false, cond, min, List, [], ◌∷◌, length, leb, Some, None, Option, refl, sym, ap, subst, ◌∙◌, arith}
-use Rattle.std.specs.Prelude.{is_none, is_some, unwrap_or, codes}
+use Rattle.std.proofs.Common.{◌≡◌, ℕ, zero, suc, ◌+◌, ◌≤◌, Bool, true, false, cond, List, [], ◌∷◌, length, leb, Some, None, Option, refl, sym, ap, arith}
+use Rattle.std.specs.Prelude.{is_none, is_some, codes}
 use Rattle.em_log.specs.Names.{is_name}
-use Rattle.em_log.specs.declared.body.Stmt.TheVariants as stmt
 use Rattle.em_log.specs.declared.ids.Kind.{Kind}
 use Rattle.em_log.specs.declared.ids.Kind.TheVariants as kinds
 use Rattle.em_script.specs.declared.line.Line.{Line}
-use Rattle.em_script.specs.declared.line.Line.TheVariants as lines
 use Rattle.em_script.specs.declared.line.Membership.{Membership}
 use Rattle.em_script.specs.declared.line.Membership.TheVariants as memberships
 use Rattle.em_script.specs.declared.named.Named.{Named}
@@ -21,15 +19,15 @@ use Rattle.em_script.specs.declared.words.BodyWord.TheVariants as body
 use Rattle.em_script.specs.Lines.{Rest, tokens}
 use Rattle.em_script.specs.Names.{Naming, reading, as_pool, as_group, as_eo, as_agroup, as_queue, as_egroup}
 use Rattle.em_script.specs.Numerals.{is_digits, is_within, value}
-use Rattle.em_script.specs.Form.{◌>>=◌, Form, given, token_at, first_token, lowered, judged, used, used_name, declared_name, new_name, is_at, is_over, is_followed, skip, ◌▷◌, after, flag, lookup, one_of, number, read_number, number_of, variable, variable_of, up_to_end, several, limited, pool_name, group_name, eo_name, agroup_name, queue_name, egroup_name}
+use Rattle.em_script.specs.Form.{◌>>=◌, Form, given, token_at, lowered, judged, used, used_name, declared_name, new_name, is_at, is_over, is_followed, skip, ◌▷◌, after, flag, lookup, one_of, number, read_number, number_of, variable, variable_of, up_to_end, several, limited, pool_name, group_name, eo_name, agroup_name, queue_name, egroup_name}
 use Rattle.em_script.specs.Form.{ended as nothing_left}
 use Rattle.em_script.specs.Expressions.{expression, read_expression, read_symbols, symbol_of, places_of, is_well, expression_of}
 use Rattle.em_script.specs.Words.{part, kind, priority, top_word, body_word, part_words, part_text, kind_words, kind_text, priority_words, priority_text, top_words, top_text, body_words, body_text}
-use Rattle.em_script.specs.Declarations.{cores_form, pool_form, group_form, eo_form, agroup_form, egroup_form, body_form, membership, atomic_form, grouped_form, local_form, atomic_queue, queue_behind, read_queue, top_line_behind, read_top_line, may_stand}
+use Rattle.em_script.specs.Declarations.{cores_form, pool_form, group_form, eo_form, agroup_form, egroup_form, body_form, membership, atomic_form, grouped_form, local_form, queue_behind, read_queue, top_line_behind, read_top_line, may_stand}
 use Rattle.em_script.specs.Statements.{note, notes, value_form, set_form, repeat_form, cell_form, alloc_form, send_form, sendg_form, claim_form, dequeue_form, queue_form, apply_form, abort_form, start_form, modify_form, body_line_behind, read_body_line}
 use Rattle.em_script.specs.State.{State}
-use Rattle.em_script.specs.Judging.{read_by_phase, may_else, rule_of}
-use Rattle.em_script.proofs.Binds.{some-is, bind-some, given-some, test-some, cond-some}
+use Rattle.em_script.specs.Judging.{read_by_phase, may_else}
+use Rattle.em_script.proofs.Binds.{some-is, bind-some, test-some, cond-some}
 use Rattle.em_script.proofs.Forms.{skip-well}
 use Rattle.em_script.proofs.Judgments.{Said}
 use Rattle.em_script.proofs.PlacesRead.{token-rule}

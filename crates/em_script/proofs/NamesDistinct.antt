@@ -1,5 +1,5 @@
 -- The parts of a well-formed graph have different names.
-use Rattle.std.proofs.Common.{◌≡◌, ℕ, zero, suc, ◌+◌, ◌<◌, ◌≤◌, Bool, true, false, ◌&&◌, List, [], ◌∷◌, ◌++◌, length, map, Option, Some, None, refl, sym, ap, subst, ◌∙◌, arith, inl, inr, ◌⊎◌, append_assoc, length-append}
+use Rattle.std.proofs.Common.{◌≡◌, ℕ, zero, suc, ◌+◌, ◌<◌, ◌≤◌, true, false, List, [], ◌∷◌, ◌++◌, length, map, Some, refl, sym, ap, subst, ◌∙◌, arith, inl, inr, ◌⊎◌, append_assoc, length-append}
 use Rattle.std.specs.List.{list_all}
 use Rattle.std.specs.Option.{option_map_or}
 use Rattle.std.specs.Prelude.{codes, slice_get}
@@ -14,6 +14,9 @@ use Rattle.em_script.specs.declared.named.Named.TheVariants as named
 use Rattle.em_script.specs.Names.{name_in}
 use Rattle.em_script.proofs.Ascii.{both}
 use Rattle.em_script.proofs.Distinct.{IsAmong, only_one}
+use Rattle.em_script.proofs.Forms.{IsPlain}
+use Rattle.em_script.proofs.SlotForms.{name-plain}
+use Rattle.em_script.proofs.WordForms.{plain-word}
 use Rattle.em_script.proofs.NamesKnown.{AreDistinct, IsBefore, counts_of}
 
 -- the parts of a kind, by number
@@ -141,3 +144,22 @@ pub well-distinct : (g : Config) → IsWellFormed g → AreDistinct g
 well-distinct g well x y p q e =
     let w = both (list_all is_name (names_of g)) (are_different (names_of g)) well.names in
     distinct g (ap (list_all is_name) (parts-names g) ∙ w.0) (ap are_different (parts-names g) ∙ w.1) x y (among-parts g x p) (among-parts g y q) e
+
+-- ---- and each has a name that may be given, apart from the queue group of every core
+
+parts-well : (g : Config) → IsWellFormed g → list_all is_name (map (name_in g) (parts_of g)) ≡ true
+parts-well g well = ap (list_all is_name) (parts-names g) ∙ (both (list_all is_name (names_of g)) (are_different (names_of g)) well.names).0
+
+plain-of : (g : Config) (x : Named) → list_all is_name (map (name_in g) (parts_of g)) ≡ true → (x ≡ named.Group (record { 0 = 0 })) ⊎ IsAmong x (parts_of g) → IsPlain (name_in g x)
+plain-of g x all (inl e) = subst (λ y. IsPlain (name_in g y)) (sym e) (plain-word (codes "all") refl refl)
+plain-of g x all (inr h) = name-plain (name_in g x) (name-of g x (parts_of g) all h)
+
+pub well-plain : (g : Config) → IsWellFormed g → (x : Named) → IsBefore (counts_of g) x → IsPlain (name_in g x)
+well-plain g well x h = plain-of g x (parts-well g well) (among-parts g x h)
+
+given-of : (g : Config) (x : Named) → list_all is_name (map (name_in g) (parts_of g)) ≡ true → (x ≡ named.Group (record { 0 = 0 }) → ⊥) → (x ≡ named.Group (record { 0 = 0 })) ⊎ IsAmong x (parts_of g) → is_name (name_in g x) ≡ true
+given-of g x all other (inl e) = absurd (other e)
+given-of g x all other (inr h) = name-of g x (parts_of g) all h
+
+pub well-given : (g : Config) → IsWellFormed g → (x : Named) → IsBefore (counts_of g) x → (x ≡ named.Group (record { 0 = 0 }) → ⊥) → is_name (name_in g x) ≡ true
+well-given g well x h other = given-of g x (parts-well g well) other (among-parts g x h)

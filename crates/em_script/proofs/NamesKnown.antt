@@ -199,7 +199,7 @@ abbrev pub AreFresh : Config → List Decl → Table → Type 0
 AreFresh g [] t = Unit {0}
 AreFresh g (d ∷ ds) t = (map.get t (name_in g (meaning d)) ≡ None) × AreFresh g ds (named_too g d t)
 
-next-before : (d : Decl) (n : Counts) → IsBefore (counted d n) (next_of d n)
+pub next-before : (d : Decl) (n : Counts) → IsBefore (counted d n) (next_of d n)
 next-before (Decl.Pool k) n = omega arith
 next-before (Decl.Group k) n = omega arith
 next-before (Decl.Eo k) n = omega arith
@@ -215,7 +215,7 @@ next-not (Decl.Agroup k) n h = omega arith
 next-not (Decl.Queue k) n h = omega arith
 next-not (Decl.Egroup k) n h = omega arith
 
-within-declared : (g : Config) (n : Counts) (x : Named) → AreWithin g n → IsBefore n x → IsBefore (counts_of g) x
+pub within-declared : (g : Config) (n : Counts) (x : Named) → AreWithin g n → IsBefore n x → IsBefore (counts_of g) x
 within-declared g n (named.Pool y) w h = omega (arith, w.pools)
 within-declared g n (named.Group y) w h = omega (arith, w.groups)
 within-declared g n (named.Eo y) w h = omega (arith, w.eos)
@@ -223,7 +223,7 @@ within-declared g n (named.Agroup y) w h = omega (arith, w.agroups)
 within-declared g n (named.Queue y) w h = omega (arith, w.queues)
 within-declared g n (named.Egroup y) w h = omega (arith, w.egroups)
 
-next-is : (g : Config) (d : Decl) (n : Counts) → is_declared_next g d n ≡ true → meaning d ≡ next_of d n
+pub next-is : (g : Config) (d : Decl) (n : Counts) → is_declared_next g d n ≡ true → meaning d ≡ next_of d n
 next-is g (Decl.Pool k) n e = ap (λ m. named.Pool (record { 0 = m })) (eqb-true k n.pools e)
 next-is g (Decl.Group k) n e = ap (λ m. named.Group (record { 0 = suc m })) (eqb-true k n.groups e)
 next-is g (Decl.Eo k) n e = ap (λ m. named.Eo (record { 0 = m })) (eqb-true k n.eos e)
@@ -231,7 +231,7 @@ next-is g (Decl.Agroup k) n e = ap (λ m. named.Agroup m) (eqb-true k n.agroups 
 next-is g (Decl.Queue k) n e = ap (λ m. named.Queue (record { 0 = m })) (eqb-true k n.queues (both (k == n.queues) (uses_queue g k n) e).0)
 next-is g (Decl.Egroup k) n e = ap (λ m. named.Egroup (record { 0 = m })) (eqb-true k n.egroups e)
 
-next-inserted : (g : Config) (d : Decl) (n : Counts) (t : Table) → is_declared_next g d n ≡ true → AreWithin g (counted d n) → named_too g d t ≡ map.insert t (name_in g (next_of d n)) (next_of d n)
+pub next-inserted : (g : Config) (d : Decl) (n : Counts) (t : Table) → is_declared_next g d n ≡ true → AreWithin g (counted d n) → named_too g d t ≡ map.insert t (name_in g (next_of d n)) (next_of d n)
 next-inserted g (Decl.Pool k) n t e w =
     let same : k ≡ n.pools = eqb-true k n.pools e in
     let some = some_at g.pools n.pools (omega (arith, w.pools)) in
@@ -267,7 +267,7 @@ unfound : (o : Option Named) → ((x : Named) → o ≡ Some x → ⊥) → o �
 unfound None h = refl
 unfound (Some x) h = absurd (h x refl)
 
-next-fresh : (g : Config) → AreDistinct g → (d : Decl) (n : Counts) (t : Table) → AreWithin g (counted d n) → AreBefore n t → AreNamed g t → map.get t (name_in g (next_of d n)) ≡ None
+pub next-fresh : (g : Config) → AreDistinct g → (d : Decl) (n : Counts) (t : Table) → AreWithin g (counted d n) → AreBefore n t → AreNamed g t → map.get t (name_in g (next_of d n)) ≡ None
 next-fresh g distinct d n t w before named =
     unfound (map.get t (name_in g (next_of d n)))
     (λ x e. let old = before (name_in g (next_of d n)) x e in next-not d n (subst (IsBefore n) (distinct x (next_of d n) (within-declared g n x (within-one g d n w) old) (within-declared g (counted d n) (next_of d n) w (next-before d n)) (named (name_in g (next_of d n)) x e)) old))
@@ -289,7 +289,7 @@ pub next-known : (g : Config) → AreDistinct g → (d : Decl) (n : Counts) (t :
 next-known g distinct d n t e w before named known =
     subst (AreKnown g (counted d n)) (sym (next-inserted g d n t e w)) (known-more g d n t known (next-fresh g distinct d n t w before named) (self-equal (name_in g (next_of d n))))
 
-all-before : (g : Config) (n : Counts) (x : Named) → AreAll g n → IsBefore (counts_of g) x → IsBefore n x
+pub all-before : (g : Config) (n : Counts) (x : Named) → AreAll g n → IsBefore (counts_of g) x → IsBefore n x
 all-before g n (named.Pool y) a h = omega (arith, a.pools)
 all-before g n (named.Group y) a h = omega (arith, a.groups)
 all-before g n (named.Eo y) a h = omega (arith, a.eos)

@@ -1,7 +1,6 @@
 -- The object whose body begins has been declared.
-use Rattle.std.proofs.Common.{◌≡◌, ℕ, ◌<◌, ◌≤◌, Bool, true, false, cond, min, List, [], ◌∷◌, Some, None, Option, refl, sym, ap, subst, ◌∙◌, arith}
+use Rattle.std.proofs.Common.{◌≡◌, ℕ, ◌≤◌, Bool, true, false, cond, List, [], ◌∷◌, Some, None, Option, refl, sym, ap, subst, ◌∙◌, arith}
 use Rattle.std.specs.Prelude.{is_some, unwrap_or}
-use Rattle.std.specs.FinMap as map
 use Rattle.em_log.specs.declared.ids.EoId.{EoId}
 use Rattle.em_script.specs.declared.line.Line.{Line}
 use Rattle.em_script.specs.declared.line.Line.TheVariants as lines
@@ -16,15 +15,15 @@ use Rattle.em_script.specs.declared.words.TopWord.{TopWord}
 use Rattle.em_script.specs.declared.words.TopWord.TheVariants as top
 use Rattle.em_script.specs.Lines.{Rest}
 use Rattle.em_script.specs.Names.{Naming, reading, as_eo}
-use Rattle.em_script.specs.Form.{◌>>=◌, Form, given, token_at, first_token, lowered, used, is_over, ◌▷◌, lookup, eo_name}
+use Rattle.em_script.specs.Form.{◌>>=◌, given, token_at, first_token, lowered, used, is_over, ◌▷◌, lookup, eo_name}
 use Rattle.em_script.specs.Form.{ended as nothing_left}
 use Rattle.em_script.specs.Words.{part, part_words, top_word}
-use Rattle.em_script.specs.Declarations.{body_form, read_queue, top_line_behind, read_top_line, may_stand}
+use Rattle.em_script.specs.Declarations.{body_form, top_line_behind, read_top_line, may_stand}
 use Rattle.em_script.specs.State.{State}
-use Rattle.em_script.specs.Judging.{read_by_phase, may_else, rule_of}
+use Rattle.em_script.specs.Judging.{read_by_phase, may_else}
 use Rattle.em_script.proofs.Binds.{some-is, bind-some, given-some, test-some, cond-some}
 use Rattle.em_script.proofs.Judgments.{Said}
-use Rattle.em_script.proofs.Agreeing.{Agree, IsDeclared}
+use Rattle.em_script.proofs.Agreeing.{Agree}
 use Rattle.em_script.proofs.Standing.{declares, InBody, given-all, read_queue-declares, body-stands}
 use Rattle.em_script.proofs.Written.{IsPlace}
 use Rattle.em_script.proofs.Arranging.{PlaceIsKnown}

@@ -1,12 +1,11 @@
 -- The text of several lines.
-use Rattle.std.proofs.Common.{◌≡◌, ℕ, ◌+◌, ◌<◌, List, [], ◌∷◌, ◌++◌, length, get_or, take, map, refl, sym, ap, ◌∙◌, append_assoc, append-nil}
-use mathlib.Core.Former.{Count}
+use Rattle.std.proofs.Common.{◌≡◌, ℕ, ◌+◌, ◌<◌, List, [], ◌∷◌, ◌++◌, length, get_or, take, refl, sym, ap, ◌∙◌, append_assoc, append-nil}
 use Rattle.std.specs.List.{flat_map}
 use Rattle.std.proofs.lemmas.List.{take_more}
 use Rattle.em_log.specs.declared.graph.Config.{Config}
 use Rattle.em_script.specs.declared.line.Line.{Line}
 use Rattle.em_script.specs.declared.line.Line.TheVariants as lines
-use Rattle.em_script.specs.Lines.{joined, spelled}
+use Rattle.em_script.specs.Lines.{joined}
 use Rattle.em_script.specs.Names.{writing}
 use Rattle.em_script.specs.Spelling.{line_tokens, text_of}
 use Rattle.em_script.proofs.Spacing.{flat_map-push}

@@ -1,6 +1,6 @@
 -- A script that is read: its lines are those of the graph, arranged.
 use Rattle.std.proofs.Common.{◌≡◌, ℕ, Bool, true, false, not, cond, ◌≤◌, List, [], ◌∷◌, ◌++◌, Ok, arith, refl, sym, ap, subst, ◌∙◌, append_assoc, append-nil, inl, inr}
-use Rattle.std.specs.Prelude.{filter, map}
+use Rattle.std.specs.Prelude.{map}
 use Rattle.em_log.specs.declared.graph.Config.{Config}
 use Rattle.em_script.specs.declared.line.Line.{Line}
 use Rattle.em_script.specs.Lines.{lines, tokens}
@@ -9,7 +9,7 @@ use Rattle.em_script.specs.Spelling.{line_tokens}
 use Rattle.em_script.specs.State.{State, first_state, after, after_all}
 use Rattle.em_script.specs.Judging.{is_skipped}
 use Rattle.em_script.specs.Reading.{script_of}
-use Rattle.em_script.specs.Scripts.{IsScript, written_lines}
+use Rattle.em_script.specs.Scripts.{IsScript}
 use Rattle.em_script.proofs.Judgments.{Said, said-rule}
 use Rattle.em_script.proofs.Running.{Steps, Run, run-of-script, steps-plain, shown_lines}
 use Rattle.em_script.proofs.Agreeing.{Agree, Extends, agree-first, agree-after, extends-after, extends-same, extends-then}

@@ -1,9 +1,9 @@
 -- The lines of a block break no rule that the state decides.
-use Rattle.std.proofs.Common.{◌≡◌, ℕ, zero, suc, ◌+◌, ◌<◌, ◌≤◌, Bool, true, false, ◌&&◌, ◌||◌, List, [], ◌∷◌, ◌++◌, length, refl, sym, ap, subst, ◌∙◌, append_assoc, append-nil, arith, lt-ltb}
+use Rattle.std.proofs.Common.{◌≡◌, ℕ, zero, suc, ◌+◌, ◌≤◌, Bool, true, false, ◌&&◌, ◌||◌, List, [], ◌∷◌, ◌++◌, length, refl, sym, ap, subst, ◌∙◌, arith, lt-ltb}
 use mathlib.Core.Former.{Count}
 use Rattle.std.specs.List.{list_all}
 use Rattle.std.specs.Prelude.{nat_le, nat_lt}
-use Rattle.em_log.specs.WellFormed.{Where, is_expression, is_statement, are_statements, is_empty_row, is_plain, may_begin, may_fail, is_of_object, is_variable, are_note_expressions, is_group_number}
+use Rattle.em_log.specs.WellFormed.{Where, is_expression, is_statement, are_statements, is_empty_row, is_plain, may_begin, is_of_object, is_variable, are_note_expressions, is_group_number}
 use Rattle.em_log.specs.declared.body.Expr.{Expr}
 use Rattle.em_log.specs.declared.body.Stmt.{Stmt}
 use Rattle.em_log.specs.declared.body.Stmt.TheBlock.{Row_of-Stmt, end_of-Stmt, more_of-Stmt, items-the_row-Stmt}
@@ -12,7 +12,6 @@ use Rattle.em_script.specs.declared.draft.Opened.TheVariants as opened
 use Rattle.em_script.specs.declared.line.Line.{Line}
 use Rattle.em_script.specs.declared.line.Line.TheVariants as lines
 use Rattle.em_script.specs.declared.line.Place.{Place}
-use Rattle.em_script.specs.declared.phase.Phase.{Phase}
 use Rattle.em_script.specs.declared.phase.Phase.TheVariants as phases
 use Rattle.em_script.specs.Judging.{may_stand_at, may_stand_in, rule_of, unless, where_of}
 use Rattle.em_script.specs.Spelling.{statement_lines, row_lines, block_lines, else_lines}

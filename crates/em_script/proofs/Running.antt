@@ -1,6 +1,6 @@
 -- The lines that were read, where a graph is found.
-use Rattle.std.proofs.Common.{◌≡◌, ℕ, ◌+◌, Bool, true, false, not, cond, List, [], ◌∷◌, ◌++◌, Option, Some, None, Result, Ok, Err, refl, sym, ap, ◌∙◌, inl, inr, ◌⊎◌}
-use Rattle.std.specs.Prelude.{◌&&◌, filter, map, IsTrue}
+use Rattle.std.proofs.Common.{◌≡◌, ℕ, ◌+◌, Bool, true, false, not, cond, List, [], ◌∷◌, Some, None, Ok, Err, refl, sym, ◌∙◌, inl, inr, ◌⊎◌}
+use Rattle.std.specs.Prelude.{◌&&◌, filter, map}
 use Rattle.std.specs.List.{list_all}
 use Rattle.em_log.specs.declared.graph.Config.{Config}
 use Rattle.em_script.specs.declared.line.Line.{Line}
@@ -10,9 +10,8 @@ use Rattle.em_script.specs.declared.phase.Phase.{Phase}
 use Rattle.em_script.specs.declared.phase.Phase.TheVariants as phases
 use Rattle.em_script.specs.Lines.{lines, tokens, is_plain_line}
 use Rattle.em_script.specs.State.{State, first_state, after, after_all}
-use Rattle.em_script.specs.Judging.{judge, judge_tokens, is_skipped, resolved, told, read_by_phase}
-use Rattle.em_script.specs.Reading.{Found, followed, found_from, is_done, script_of}
-use Rattle.em_script.specs.Scripts.{written_lines}
+use Rattle.em_script.specs.Judging.{judge, judge_tokens, is_skipped, resolved, read_by_phase}
+use Rattle.em_script.specs.Reading.{Found, found_from, is_done, script_of}
 use Rattle.em_script.proofs.Judgments.{Said, whole, judge-says}
 use Rattle.em_script.proofs.Finding.{found-end, found-refused, found-skipped, found-says, script-begins}
 

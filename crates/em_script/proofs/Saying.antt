@@ -1,19 +1,19 @@
 -- A text whose lines say what they are written for is read as what they say.
-use Rattle.std.proofs.Common.{◌≡◌, ℕ, ◌+◌, Bool, true, false, List, [], ◌∷◌, map, Some, Ok, refl, sym, ap, ◌∙◌}
+use Rattle.std.proofs.Common.{◌≡◌, ℕ, ◌+◌, true, false, List, [], ◌∷◌, map, Some, Ok, refl, ap, ◌∙◌}
 use Rattle.std.specs.List.{AllByRecursion}
 use Rattle.em_log.specs.WellFormed.{IsWellFormed}
 use Rattle.em_log.specs.declared.graph.Config.{Config}
 use Rattle.em_script.specs.declared.judging.Judged.TheVariants as judgments
 use Rattle.em_script.specs.declared.line.Line.{Line}
-use Rattle.em_script.specs.Judging.{is_skipped, judge, judge_tokens, read_by_phase, resolved}
-use Rattle.em_script.specs.Lines.{Rest, joined, tokens}
+use Rattle.em_script.specs.Judging.{is_skipped, judge, read_by_phase, resolved}
+use Rattle.em_script.specs.Lines.{joined}
 use Rattle.em_script.specs.Names.{writing}
 use Rattle.em_script.specs.Reading.{found_from, is_done, script_of}
 use Rattle.em_script.specs.Spelling.{arranged, bodies_of, line_tokens, spelling}
 use Rattle.em_script.specs.State.{State, after, after_all, first_state}
 use Rattle.em_script.proofs.RulesMet.{AreMet}
 use Rattle.em_script.proofs.ScriptMet.{arranged_met}
-use Rattle.em_script.proofs.ScriptRead.{arranged_read, read_whole}
+use Rattle.em_script.proofs.ScriptRead.{arranged_read}
 use Rattle.em_script.proofs.TextsRead.{AreTokens, IsToken, is_plain_line-joined, lines-spelled, tokens-joined}
 
 -- in this state the tokens of a line say this line

@@ -1,9 +1,9 @@
 -- The lines of declarations, and the last line, break no rule that the state decides.
-use Rattle.std.proofs.Common.{◌≡◌, ℕ, suc, ◌+◌, ◌<◌, ◌≤◌, Bool, true, false, ◌&&◌, List, [], ◌∷◌, ◌++◌, length, map, take, drop, Option, Some, None, refl, sym, ap, subst, ◌∙◌, arith, eqb-true, lt-ltb, le-leb}
+use Rattle.std.proofs.Common.{◌≡◌, ℕ, suc, ◌+◌, ◌≤◌, Bool, true, false, ◌&&◌, List, [], ◌∷◌, ◌++◌, length, map, take, drop, Option, Some, None, refl, sym, ap, subst, ◌∙◌, arith, eqb-true, lt-ltb, le-leb}
 use Rattle.std.specs.List.{flat_map, list_all}
 use Rattle.std.specs.Option.{option_map_or, option_or}
 use Rattle.std.specs.Prelude.{◌==◌, nat_le, nat_lt, slice_get}
-use Rattle.std.proofs.lemmas.List.{map-append, take-append-drop}
+use Rattle.std.proofs.lemmas.List.{take-append-drop}
 use Rattle.std.proofs.lemmas.Option.{slice_get_within}
 use Rattle.em_log.specs.Declarations.{event_total, pool_shape}
 use Rattle.em_log.specs.Weights.{weight_of, steps_of}
@@ -18,10 +18,10 @@ use Rattle.em_log.specs.declared.graph.GroupDecl.{GroupDecl}
 use Rattle.em_log.specs.declared.graph.PoolDecl.{PoolDecl}
 use Rattle.em_log.specs.declared.graph.QueueDecl.{QueueDecl}
 use Rattle.em_script.specs.declared.line.Line.TheVariants as lines
-use Rattle.em_script.specs.Judging.{are_light, is_light, is_light_error, is_light_object, rule_of, unless}
+use Rattle.em_script.specs.Judging.{are_light, is_light, is_light_error, is_light_object}
 use Rattle.em_script.specs.Names.{Table, first_table}
 use Rattle.em_script.specs.Spelling.{arranged, bodies_of, body_lines, declared_lines}
-use Rattle.em_script.specs.State.{State, after, after_all, first_state}
+use Rattle.em_script.specs.State.{after, first_state}
 use Rattle.em_script.proofs.Ascii.{both}
 use Rattle.em_script.proofs.BodiesMet.{bodies_of_met}
 use Rattle.em_script.proofs.BodiesRead.{bare, between, bodies_of_read, bodies_read, boot_read, unwritten}

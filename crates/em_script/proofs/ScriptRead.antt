@@ -1,15 +1,14 @@
 -- The lines of a script, read: they give the graph.
-use Rattle.std.proofs.Common.{◌≡◌, ℕ, suc, Bool, true, false, ◌&&◌, ◌||◌, List, [], ◌∷◌, ◌++◌, Option, Some, None, refl, sym, ap, ◌∙◌}
+use Rattle.std.proofs.Common.{◌≡◌, ℕ, suc, Bool, true, false, ◌&&◌, List, [], ◌∷◌, ◌++◌, Option, Some, None, refl, ap, ◌∙◌}
 use Rattle.std.specs.List.{flat_map, list_all}
 use Rattle.std.specs.Option.{option_map_or, option_or}
-use Rattle.std.specs.Prelude.{IsTrue, nat_le}
+use Rattle.std.specs.Prelude.{nat_le}
 use Rattle.em_log.specs.Weights.{weight_of, steps_of}
-use Rattle.em_log.specs.WellFormed.{Where, Boot, GlobalError, Receive, Start, OtherOfObject, IsWellFormed, are_bodies, are_given, is_body, is_error_body, is_statement, no_counts}
+use Rattle.em_log.specs.WellFormed.{Receive, Start, OtherOfObject, IsWellFormed, are_bodies, are_given, is_body, is_error_body, is_statement, no_counts}
 use Rattle.em_log.specs.declared.body.Stmt.{Stmt}
 use Rattle.em_log.specs.declared.graph.Config.{Config}
 use Rattle.em_log.specs.declared.graph.EoDecl.{EoDecl}
 use Rattle.em_script.specs.declared.line.Line.TheVariants as lines
-use Rattle.em_script.specs.declared.line.Part.{Part}
 use Rattle.em_script.specs.declared.line.Part.TheVariants as parts
 use Rattle.em_script.specs.declared.line.Place.{Place}
 use Rattle.em_script.specs.declared.line.Place.TheVariants as places
@@ -20,7 +19,7 @@ use Rattle.em_script.specs.Spelling.{Placed, arranged, bodies_of, bodies_of_obje
 use Rattle.em_script.specs.State.{State, after, after_all, first_state}
 use Rattle.em_script.proofs.Ascii.{both}
 use Rattle.em_script.proofs.BlocksRead.{after_all-append}
-use Rattle.em_script.proofs.BodiesRead.{AreBlocks, IsBlock, between, bodies_of_read, bodies_read, boot_among, boot_read, unwritten, with_bodies}
+use Rattle.em_script.proofs.BodiesRead.{AreBlocks, IsBlock, between, bodies_of_read, bodies_read, boot_read, unwritten}
 use Rattle.em_script.proofs.DeclarationsRead.{all_named, declaring, order_read}
 
 -- ---- the statements of each body

@@ -1,5 +1,5 @@
 -- Which lines may stand where, by how far the reading has come.
-use Rattle.std.proofs.Common.{◌≡◌, ℕ, Bool, true, false, cond, List, [], ◌∷◌, Some, None, Option, refl, sym, ap, subst, ◌∙◌}
+use Rattle.std.proofs.Common.{◌≡◌, ℕ, Bool, true, false, cond, List, [], ◌∷◌, Some, None, Option, refl, subst}
 use Rattle.std.specs.Prelude.{◌||◌}
 use Rattle.em_log.specs.declared.ids.Kind.{Kind}
 use Rattle.em_log.specs.declared.ids.Kind.TheVariants as kinds

@@ -1,5 +1,5 @@
 -- Each line that is said was written so.
-use Rattle.std.proofs.Common.{◌≡◌, ℕ, zero, suc, ◌-◌, ◌^◌, ◌<◌, ◌≤◌, Bool, true, false, List, [], ◌∷◌, length, min, Some, Option, refl, sym, ap, subst, ◌∙◌, arith, inl, inr}
+use Rattle.std.proofs.Common.{◌≡◌, ℕ, zero, suc, ◌-◌, ◌^◌, ◌<◌, ◌≤◌, Bool, true, List, length, Some, refl, sym, subst, ◌∙◌, arith, inl, inr, ◌⊎◌}
 use Rattle.std.specs.Prelude.{codes}
 use Rattle.std.specs.FinMap as map
 use Rattle.em_log.specs.declared.graph.Config.{Config}
@@ -14,13 +14,13 @@ use Rattle.em_script.specs.Names.{Naming, Table, name_in, no_meaning, no_name, r
 use Rattle.em_script.specs.Declarations.{read_top_line}
 use Rattle.em_script.specs.Statements.{read_body_line}
 use Rattle.em_script.specs.Spelling.{line_tokens}
-use Rattle.em_script.specs.State.{State, first_state, after, turned, ended}
-use Rattle.em_script.specs.Judging.{read_by_phase, may_else, rule_of}
+use Rattle.em_script.specs.State.{State, first_state, after}
+use Rattle.em_script.specs.Judging.{read_by_phase, may_else}
 use Rattle.em_script.proofs.Judgments.{Said, whole}
 use Rattle.em_script.proofs.Agreeing.{Agree, Extends, inserted, no-group, extends-then, extends-after, turned-table, ended-table}
-use Rattle.em_script.proofs.Standing.{declares, begins, InBody, Stands}
+use Rattle.em_script.proofs.Standing.{declares}
 use Rattle.em_script.proofs.Forms.{IsPlain}
-use Rattle.em_script.proofs.NameForms.{IsKnown, IsNaming}
+use Rattle.em_script.proofs.NameForms.{IsNaming}
 use Rattle.em_script.proofs.SlotForms.{IsFree, name-plain}
 use Rattle.em_script.proofs.DeclarationForms.{TopFits, top_line-took}
 use Rattle.em_script.proofs.StatementForms.{BodyLineFits, body_line-took}
@@ -41,7 +41,7 @@ is-naming s g agree plain ext = record {
   plain = λ x known. plain (name_in g x) x known;
 }
 
-powers : (c : ℕ) → c ≤ 8 → 2 ^ c - 1 < 2 ^ 64
+pub powers : (c : ℕ) → c ≤ 8 → 2 ^ c - 1 < 2 ^ 64
 powers zero le = omega arith
 powers (suc zero) le = omega arith
 powers (suc (suc zero)) le = omega arith
@@ -54,14 +54,15 @@ powers (suc (suc (suc (suc (suc (suc (suc (suc zero)))))))) le = omega arith
 powers (suc (suc (suc (suc (suc (suc (suc (suc (suc c))))))))) le = absurd (omega arith)
 
 -- what a line said, by its names and where it stands
-record Taken (names : Naming) (cores : ℕ) (may : Bool) (ts : List (List ℕ)) (l : Line) : Type 0 where
-  tokens : ts ≡ line_tokens names l
-  named : declares l ≡ true → TopFits names cores l
+pub record Taken (names : Naming) (cores : ℕ) (may : Bool) (ts : List (List ℕ)) (l : Line) : Type 0 where
+  pub tokens : ts ≡ line_tokens names l
+  pub named : declares l ≡ true → TopFits names cores l
+  pub fits : TopFits names cores l ⊎ BodyLineFits names may l
 
 top-taken : (table : Table) (g : Config) → IsNaming (naming table g) → (cores : ℕ) → cores ≤ 8 → (phase : Phase) (may : Bool) (ts : List (List ℕ)) (l : Line) (s' : Rest) → read_top_line (reading table) cores phase (whole ts) ≡ Some (l, s') → s'.rule ≡ 12 → Taken (naming table g) cores may ts l
 top-taken table g is cores few phase may ts l s' e rule =
-    let t = top_line-took (naming table g) is cores (powers cores few) phase (whole ts) l s' (sym (top_line-same (map.get table) no_name (name_in g) cores phase (whole ts)) ∙ e) (omega (arith, rule)) in
-    record { tokens = t.tokens; named = λ d. t.fits }
+    let t = top_line-took (naming table g) is cores (powers cores few) phase (whole ts) l s' (sym (top_line-same (map.get table) no_name (name_in g) cores phase (whole ts)) ∙ e) (let e = rule in omega arith) in
+    record { tokens = t.tokens; named = λ d. t.fits; fits = inl t.fits }
 
 no-declaration : (names : Naming) (cores : ℕ) (may : Bool) (l : Line) → BodyLineFits names may l → declares l ≡ true → TopFits names cores l
 no-declaration names cores may (lines.Cores n) fits e = absurd cc
@@ -81,10 +82,10 @@ no-declaration names cores may lines.End fits e = absurd cc
 
 body-taken : (table : Table) (g : Config) → IsNaming (naming table g) → (cores : ℕ) (may : Bool) (ts : List (List ℕ)) (l : Line) (s' : Rest) → read_body_line (reading table) may (whole ts) ≡ Some (l, s') → s'.rule ≡ 12 → Taken (naming table g) cores may ts l
 body-taken table g is cores may ts l s' e rule =
-    let t = body_line-took (naming table g) is may (whole ts) l s' (sym (body_line-same (map.get table) no_name (name_in g) may (whole ts)) ∙ e) (omega (arith, rule)) in
-    record { tokens = t.tokens; named = λ d. no-declaration (naming table g) cores may l t.fits d }
+    let t = body_line-took (naming table g) is may (whole ts) l s' (sym (body_line-same (map.get table) no_name (name_in g) may (whole ts)) ∙ e) (let e = rule in omega arith) in
+    record { tokens = t.tokens; named = λ d. no-declaration (naming table g) cores may l t.fits d; fits = inr t.fits }
 
-phase-taken : (p : Phase) (s : State) (g : Config) → IsNaming (naming s.table g) → s.graph.cores ≤ 8 → (ts : List (List ℕ)) (l : Line) (s' : Rest) → read_by_phase p s (whole ts) ≡ Some (l, s') → s'.rule ≡ 12 → Taken (naming s.table g) s.graph.cores (may_else s.nest) ts l
+pub phase-taken : (p : Phase) (s : State) (g : Config) → IsNaming (naming s.table g) → s.graph.cores ≤ 8 → (ts : List (List ℕ)) (l : Line) (s' : Rest) → read_by_phase p s (whole ts) ≡ Some (l, s') → s'.rule ≡ 12 → Taken (naming s.table g) s.graph.cores (may_else s.nest) ts l
 phase-taken phases.First s g is few ts l s' e rule = top-taken s.table g is s.graph.cores few phases.First (may_else s.nest) ts l s' e rule
 phase-taken phases.Declarations s g is few ts l s' e rule = top-taken s.table g is s.graph.cores few phases.Declarations (may_else s.nest) ts l s' e rule
 phase-taken phases.Bodies s g is few ts l s' e rule = top-taken s.table g is s.graph.cores few phases.Bodies (may_else s.nest) ts l s' e rule

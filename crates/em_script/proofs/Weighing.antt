@@ -1,10 +1,9 @@
 -- The weights and steps of blocks, counted up to a bound.
 use mathlib.Core.Former.{Count}
-use Rattle.std.proofs.Common.{◌≡◌, ℕ, zero, suc, ◌<◌, ◌≤◌, List, [], ◌∷◌, ◌++◌, length, take, get_or, refl, ◌+◌, ◌*◌, max, min, ap, sym, ◌∙◌, arith, Bool, Option, Some, None, leb, true, false}
-use Rattle.std.specs.Prelude.{◌&&◌, nat_le}
+use Rattle.std.proofs.Common.{◌≡◌, ℕ, zero, suc, ◌<◌, List, [], ◌∷◌, ◌++◌, length, take, get_or, refl, ◌+◌, ◌*◌, max, min, ap, sym, ◌∙◌, arith, Bool, Option, leb, true, false}
+use Rattle.std.specs.Prelude.{◌&&◌}
 use Rattle.std.specs.Option.{option_map_or}
 use Rattle.std.proofs.lemmas.Bool.Decides.{nat_tests}
-use Rattle.em_script.specs.Judging.{is_light}
 use Rattle.std.proofs.lemmas.List.{take_more}
 use Rattle.em_log.specs.declared.body.Expr.{Expr}
 use Rattle.em_log.specs.declared.body.Stmt.{Stmt}

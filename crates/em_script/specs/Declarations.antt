@@ -1,8 +1,6 @@
 -- The forms of the lines outside bodies.
-use Rattle.std.specs.Prelude.{ℕ, ◌-◌, ◌^◌, Bool, true, false, List, [], ◌∷◌, ◌++◌, Option, Some, None, unwrap_or, if◌then◌else◌, codes}
+use Rattle.std.specs.Prelude.{ℕ, ◌-◌, ◌^◌, Bool, true, false, List, [], ◌∷◌, Option, Some, None, unwrap_or, if◌then◌else◌, codes}
 use Rattle.std.specs.Option.{option_map_or}
-use Rattle.em_log.specs.declared.graph.PoolDecl.{PoolDecl}
-use Rattle.em_log.specs.declared.graph.AgroupDecl.{AgroupDecl}
 use Rattle.em_log.specs.declared.graph.QueueDecl.{QueueDecl}
 use Rattle.em_log.specs.declared.graph.Priority.{Priority}
 use Rattle.em_log.specs.declared.graph.Priority.TheVariants as priorities
@@ -22,7 +20,7 @@ use Rattle.em_script.specs.declared.phase.Phase.{Phase}
 use Rattle.em_script.specs.declared.phase.Phase.TheVariants as phases
 use Rattle.em_script.specs.Lines.{Rest}
 use Rattle.em_script.specs.Names.{Naming}
-use Rattle.em_script.specs.Form.{◌>>=◌, Form, given, ◌▷◌, after, ended, flag, number, new_name, group_name, eo_name, agroup_name, skip, is_followed}
+use Rattle.em_script.specs.Form.{◌>>=◌, Form, given, ◌▷◌, ended, flag, number, new_name, group_name, eo_name, agroup_name, skip, is_followed}
 use Rattle.em_script.specs.Words.{top_word, kind, kind_text, priority, part}
 
 -- ---- what stands behind the first word

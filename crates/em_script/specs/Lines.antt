@@ -1,5 +1,5 @@
 -- The lines of a text, the tokens of a line, and how they are spelled.
-use Rattle.std.specs.Prelude.{ℕ, Bool, true, false, ◌&&◌, List, [], ◌∷◌, ◌++◌, ◌==◌, if◌then◌else◌, nat_le, flat_map}
+use Rattle.std.specs.Prelude.{ℕ, Bool, ◌&&◌, List, [], ◌∷◌, ◌++◌, ◌==◌, if◌then◌else◌, nat_le, flat_map}
 use Rattle.std.specs.List.{list_all}
 
 abbrev pub onto_first : ℕ → List (List ℕ) → List (List ℕ)

@@ -1,8 +1,7 @@
 -- The canonical spelling of a graph: the lines that declare it, and their tokens.
 use mathlib.Core.Former.{Count}
 use Rattle.std.specs.Prelude.{ℕ, suc, Bool, true, false, List, [], ◌∷◌, ◌++◌, map, flat_map, Option, Some, None, option_to_list, slice_get, codes}
-use Rattle.std.specs.Option.{option_map, option_map_or}
-use Rattle.em_log.specs.declared.body.Expr.{Expr}
+use Rattle.std.specs.Option.{option_map}
 use Rattle.em_log.specs.declared.body.Stmt.{Stmt}
 use Rattle.em_log.specs.declared.body.Stmt.TheBlock.{Row_of-Stmt, end_of-Stmt, more_of-Stmt}
 use Rattle.em_log.specs.declared.graph.Config.{Config}
@@ -11,7 +10,6 @@ use Rattle.em_log.specs.declared.graph.EoDecl.{EoDecl}
 use Rattle.em_log.specs.declared.ids.EoId.{EoId}
 use Rattle.em_script.specs.declared.line.Line.{Line}
 use Rattle.em_script.specs.declared.line.Line.TheVariants as lines
-use Rattle.em_script.specs.declared.line.Part.{Part}
 use Rattle.em_script.specs.declared.line.Part.TheVariants as parts
 use Rattle.em_script.specs.declared.line.Place.{Place}
 use Rattle.em_script.specs.declared.line.Place.TheVariants as places

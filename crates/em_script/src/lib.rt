@@ -5,6 +5,7 @@ mod declarations;
 mod draft;
 mod expressions;
 mod judging;
+mod laws;
 mod line;
 mod named;
 mod names;
@@ -22,6 +23,7 @@ mod tokens;
 mod weights;
 mod words;
 
+pub use laws::{reading_undoes_printing, scripts_are_read, spellings_are_scripts};
 pub use printing::print;
 pub use reading::{ScriptEnd, parse};
 

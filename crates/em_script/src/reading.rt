@@ -93,6 +93,9 @@ fn read_lines(alloc: Global, bytes: &[u8]) -> Result<Config, ScriptEnd>
 
 /// The graph that the bytes declare, where they are a script.
 pub fn parse(alloc: Global, bytes: &[u8]) -> Result<Config, ScriptEnd>
+    // What is read is a script of a graph that is well formed.
+    ensures found { IfOk result (λ graph. IsWellFormed graph × IsScript bytes.now graph) }
+
     // Which line fails, and by which rule.
     ensures exact { Gives result (script_of bytes.now) }
 {

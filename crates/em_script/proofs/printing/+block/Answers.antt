@@ -1,6 +1,5 @@
 use Rattle.std.proofs.Common.{◌≡◌, ◌∷◌, ◌++◌, [], append-nil, ap, sym, ◌∙◌}
 use Rattle.std.specs.Prelude.{codes, decimal}
-use Rattle.em_log.specs.declared.body.Stmt.TheVariants as stmt
 use Rattle.em_script.specs.declared.line.Line.TheVariants as lines
 use Rattle.em_script.specs.Lines.{spaced}
 use Rattle.em_script.specs.Spelling.{block_lines, else_lines, statement_lines, text_of}

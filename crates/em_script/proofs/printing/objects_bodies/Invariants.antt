@@ -1,4 +1,4 @@
-use Rattle.std.proofs.Common.{◌≡◌, ◌++◌, length, take}
+use Rattle.std.proofs.Common.{◌≡◌, ◌++◌, take}
 use Rattle.std.specs.List.{flat_map}
 use Rattle.em_script.specs.Spelling.{bodies_of_objects, body_lines, text_of}
 use Rattle.em_script.proofs.printing.objects_bodies.Given as goal

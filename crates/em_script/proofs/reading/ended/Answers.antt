@@ -1,8 +1,7 @@
-use Rattle.std.proofs.Common.{◌≡◌, Ok, Err, true, false, cond, ap, sym, ◌∙◌, subst, rules}
-use Rattle.em_script.specs.State.{state_of, graph_of}
-use Rattle.em_script.specs.Reading.{is_done, FailsAs}
+use Rattle.std.proofs.Common.{Ok, Err, cond, ap, sym, ◌∙◌}
+use Rattle.em_script.specs.State.{state_of}
+use Rattle.em_script.specs.Reading.{is_done}
 use Rattle.em_script.proofs.Finding.{found-end, not-done}
-use Rattle.em_script.proofs.CoresRead.{says-cores}
 use Rattle.em_script.proofs.reading.ended.Goals as goal
 
 pub returns-in-Ok : goal.returns-in-Ok

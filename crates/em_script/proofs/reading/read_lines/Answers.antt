@@ -1,12 +1,11 @@
-use Rattle.std.proofs.Common.{◌≡◌, ◌≤◌, ◌+◌, ◌∷◌, [], length, Result, Ok, Err, true, false, Bool, ℕ, List, eqb, refl, ap, sym, subst, ◌∙◌, arith, eqb-true}
+use Rattle.std.proofs.Common.{◌≡◌, ◌≤◌, ◌+◌, ◌∷◌, [], length, Result, Ok, Err, true, false, ℕ, List, eqb, refl, ap, sym, subst, ◌∙◌, arith, eqb-true}
 use Rattle.std.specs.Prelude.{OnOk, is_err}
 use Rattle.em_script.specs.Lines.{lines}
 use Rattle.em_script.specs.State.{State, state_of, after}
-use Rattle.em_script.specs.Judging.{judge}
 use Rattle.em_script.specs.Reading.{Gives, found_from, script_of}
 use Rattle.em_script.proofs.Judgments.{rule-says}
 use Rattle.em_script.proofs.CoresRead.{says-cores}
-use Rattle.em_script.proofs.Finding.{found-refused, found-skipped, found-says, script-begins, lines-none}
+use Rattle.em_script.proofs.Finding.{found-refused, found-skipped, found-says, lines-none}
 use Rattle.em_script.proofs.reading.read_lines.Goals as goal
 use Rattle.em_script.proofs.reading.read_lines.Goals.{in-Skipped, in-Says+else-is_err}
 

@@ -1,6 +1,6 @@
-use Rattle.std.proofs.Common.{◌∷◌, ◌++◌, []}
+use Rattle.std.proofs.Common.{◌++◌}
 use Rattle.std.specs.List.{flat_map}
-use Rattle.std.specs.Prelude.{codes, decimal}
+use Rattle.std.specs.Prelude.{codes}
 use Rattle.em_script.specs.Expressions.{expression}
 use Rattle.em_script.specs.Form.{pool_name, variable}
 use Rattle.em_script.specs.Names.{writing}

@@ -1,4 +1,4 @@
-use Rattle.std.proofs.Common.{◌≡◌, ℕ, ◌+◌, ◌*◌, min, max, take, ap, sym, ◌∙◌, arith}
+use Rattle.std.proofs.Common.{◌≡◌, ◌*◌, min, max, take, ap, sym, ◌∙◌, arith}
 use Rattle.em_log.specs.Weights.{steps, steps_of}
 use Rattle.em_script.proofs.Weighing.{min-sum, min-max, min-more, min-product, steps-if, steps-repeat, steps_of-more}
 use Rattle.em_script.proofs.weights.+steps.Goals as goal

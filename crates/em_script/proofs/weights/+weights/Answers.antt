@@ -1,4 +1,4 @@
-use Rattle.std.proofs.Common.{◌≡◌, ℕ, ◌+◌, ◌*◌, min, max, take, ap, sym, ◌∙◌, arith}
+use Rattle.std.proofs.Common.{◌≡◌, min, take, ap, sym, ◌∙◌, arith}
 use Rattle.em_log.specs.Weights.{weight, weight_of}
 use Rattle.em_script.proofs.Weighing.{min-sum, min-max, min-product, weight-if, weight-repeat, weight_of-more}
 use Rattle.em_script.proofs.weights.+weights.Goals as goal

@@ -1,4 +1,4 @@
-use Rattle.std.proofs.Common.{◌≡◌, ℕ, true, false, min, refl, ap, sym, ◌∙◌, leb}
+use Rattle.std.proofs.Common.{◌≡◌, min, refl, ap, sym, ◌∙◌, leb}
 use Rattle.std.proofs.lemmas.Bool.{le-leb, lt-leb}
 use Rattle.em_log.specs.Weights.{weight_of, steps_of}
 use Rattle.em_script.proofs.Weighing.{error_weight, error_steps, light-weight, light-steps, light-both, light-first}
