@@ -17,12 +17,12 @@ use Rattle.em_script.proofs.Ascii.{both}
 use Rattle.em_script.proofs.BodiesRead.{AreBlocks, IsBlock, bare, between, body_read, error_read, given-of, inside, lstart_read, lstop_read, object_at, object_read, receive_read, start_read, stop_read, unwritten, with-lstart, with-lstop, with-receive, with-start, with-stop, with_bodies, with_object}
 use Rattle.em_script.proofs.RulesMet.{AreMet, AreMet-append, block_lines_met, unless-met}
 
-body_met : (whole g : Config) (table : Table) (has_boot : Bool) (p : Placed) → IsBlock whole p → is_given (between g table has_boot) p.0 ≡ false → AreMet (body_lines p) (between g table has_boot)
+pub body_met : (whole g : Config) (table : Table) (has_boot : Bool) (p : Placed) → IsBlock whole p → is_given (between g table has_boot) p.0 ≡ false → AreMet (body_lines p) (between g table has_boot)
 body_met whole g table has_boot p well new =
     (unless-met (not (is_given (between g table has_boot) p.0)) 8 (ap not new), AreMet-append (block_lines p.1) (lines.End ∷ []) (inside p.0 g table has_boot) (block_lines_met whole p.0 16 p.1 well (inside p.0 g table has_boot) refl (omega arith)) (refl, tt))
 
 -- none of these bodies was given before it, once boot has been
-abbrev AreNew : Table → List Placed → Config → Type 0
+abbrev pub AreNew : Table → List Placed → Config → Type 0
 AreNew table [] g = Unit {0}
 AreNew table (p ∷ ps) g = (is_given (between g table true) p.0 ≡ false) × AreNew table ps (with_body p.0 p.1 g)
 
@@ -83,7 +83,7 @@ error_new : (g : Config) (table : Table) (b : Option (List Stmt)) → AreNew tab
 error_new g table None = tt
 error_new g table (Some b) = (refl, tt)
 
-later_new : (g : Config) (table : Table) → list_all are_given g.eos ≡ true → AreNew table (optional_body places.Error g.error ++ bodies_of_objects 0 g.eos) (record g { eos = map bare g.eos; error = None })
+pub later_new : (g : Config) (table : Table) → list_all are_given g.eos ≡ true → AreNew table (optional_body places.Error g.error ++ bodies_of_objects 0 g.eos) (record g { eos = map bare g.eos; error = None })
 later_new g table well =
     AreNew-append table (optional_body places.Error g.error) (bodies_of_objects 0 g.eos) (record g { eos = map bare g.eos; error = None }) (error_new (record g { eos = map bare g.eos }) table g.error)
     (subst (AreNew table (bodies_of_objects 0 g.eos)) (sym (error_read (record g { eos = map bare g.eos }) g.error)) (objects_new g table [] g.eos 0 refl well))

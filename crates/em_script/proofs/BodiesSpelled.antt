@@ -23,36 +23,36 @@ use Rattle.em_script.proofs.Saying.{AreSpelled, IsSpelled}
 
 -- ---- one body
 
-abbrev IsPlaced : Config → Place → Type 0
+abbrev pub IsPlaced : Config → Place → Type 0
 IsPlaced g places.Boot = Unit {0}
 IsPlaced g places.Error = Unit {0}
 IsPlaced g (places.Object eo p) = eo.0 < length g.eos
 
-place-fits : (g : Config) (t : Table) (k : AreAllNamed g t) (cores : ℕ) (p : Place) → IsPlaced g p → TopFits (both_ways g t) cores (lines.Body p)
+pub place-fits : (g : Config) (t : Table) (k : AreAllNamed g t) (cores : ℕ) (p : Place) → IsPlaced g p → TopFits (both_ways g t) cores (lines.Body p)
 place-fits g t k cores places.Boot h = tt
 place-fits g t k cores places.Error h = tt
 place-fits g t k cores (places.Object eo p) h = (k.all.eos eo h, (tt, tt))
 
-place-begins : (p : Place) → begins_body (first_word (lines.Body p)) ≡ true
+pub place-begins : (p : Place) → begins_body (first_word (lines.Body p)) ≡ true
 place-begins places.Boot = refl
 place-begins places.Error = refl
 place-begins (places.Object eo p) = refl
 
 -- the lines of a body behind the first
-inside_spelled : (g : Config) (t : Table) (k : AreAllNamed g t) (now : Config) (has_boot : Bool) (p : Placed) → IsBlock g p → AreSpelled g (block_lines p.1 ++ lines.End ∷ []) (inside p.0 now t has_boot)
+pub inside_spelled : (g : Config) (t : Table) (k : AreAllNamed g t) (now : Config) (has_boot : Bool) (p : Placed) → IsBlock g p → AreSpelled g (block_lines p.1 ++ lines.End ∷ []) (inside p.0 now t has_boot)
 inside_spelled g t k now has_boot p well =
     let s = inside p.0 now t has_boot in
     let last : AreSpelled g (lines.End ∷ []) (extended p.1 (inside p.0 now t has_boot)) = (line_spelled g t k p.0 lines.End (extended p.1 (inside p.0 now t has_boot)) refl refl tt, tt) in
     AreSpelled-append g (block_lines p.1) (lines.End ∷ []) s (block_spelled g t k p.0 16 p.1 well s refl refl)
     (subst (AreSpelled g (lines.End ∷ [])) (sym (block_read g (where_of p.0) 16 p.1 well s)) last)
 
-body_spelled : (g : Config) (t : Table) (k : AreAllNamed g t) (now : Config) (has_boot : Bool) (p : Placed) → 2 ^ now.cores - 1 < 2 ^ 64 → IsPlaced g p.0 → IsBlock g p → AreSpelled g (body_lines p) (between now t has_boot)
+pub body_spelled : (g : Config) (t : Table) (k : AreAllNamed g t) (now : Config) (has_boot : Bool) (p : Placed) → 2 ^ now.cores - 1 < 2 ^ 64 → IsPlaced g p.0 → IsBlock g p → AreSpelled g (body_lines p) (between now t has_boot)
 body_spelled g t k now has_boot p few placed well =
     (top-spelled g (between now t has_boot) (lines.Body p.0) k.is few (λ r. refl) (place-begins p.0) (place-fits g t k now.cores p.0 placed), inside_spelled g t k now has_boot p well)
 
 -- ---- one after the other
 
-abbrev ArePlaced : Config → List Placed → Type 0
+abbrev pub ArePlaced : Config → List Placed → Type 0
 ArePlaced g [] = Unit {0}
 ArePlaced g (p ∷ ps) = IsPlaced g p.0 × ArePlaced g ps
 
@@ -65,10 +65,10 @@ same-cores places.Boot b now = refl
 same-cores places.Error b now = refl
 same-cores (places.Object eo p) b now = refl
 
-few-too : (p : Place) (b : List Stmt) (now : Config) → 2 ^ now.cores - 1 < 2 ^ 64 → 2 ^ (with_body p b now).cores - 1 < 2 ^ 64
+pub few-too : (p : Place) (b : List Stmt) (now : Config) → 2 ^ now.cores - 1 < 2 ^ 64 → 2 ^ (with_body p b now).cores - 1 < 2 ^ 64
 few-too p b now few = subst (λ n. 2 ^ n - 1 < 2 ^ 64) (sym (same-cores p b now)) few
 
-bodies_spelled : (g : Config) (t : Table) (k : AreAllNamed g t) (now : Config) (has_boot : Bool) (ps : List Placed) → 2 ^ now.cores - 1 < 2 ^ 64 → ArePlaced g ps → AreBlocks g ps → AreSpelled g (flat_map body_lines ps) (between now t has_boot)
+pub bodies_spelled : (g : Config) (t : Table) (k : AreAllNamed g t) (now : Config) (has_boot : Bool) (ps : List Placed) → 2 ^ now.cores - 1 < 2 ^ 64 → ArePlaced g ps → AreBlocks g ps → AreSpelled g (flat_map body_lines ps) (between now t has_boot)
 bodies_spelled g t k now has_boot [] few placed well = tt
 bodies_spelled g t k now has_boot (p ∷ ps) few placed well =
     AreSpelled-append g (body_lines p) (flat_map body_lines ps) (between now t has_boot) (body_spelled g t k now has_boot p few placed.0 well.0)
@@ -105,7 +105,7 @@ objects-placed g n (d ∷ ds) h =
     let rest : suc n + length ds ≤ length g.eos = omega arith in
     ArePlaced-append g (bodies_of_object (record { 0 = n }) d) (bodies_of_objects (suc n) ds) (object-placed g n d here) (objects-placed g (suc n) ds rest)
 
-later-placed : (g : Config) → ArePlaced g (optional_body places.Error g.error ++ bodies_of_objects 0 g.eos)
+pub later-placed : (g : Config) → ArePlaced g (optional_body places.Error g.error ++ bodies_of_objects 0 g.eos)
 later-placed g =
     let all : 0 + length g.eos ≤ length g.eos = omega arith in
     ArePlaced-append g (optional_body places.Error g.error) (bodies_of_objects 0 g.eos) (optional-placed g places.Error g.error tt) (objects-placed g 0 g.eos all)

@@ -73,3 +73,7 @@ pub mod Declaring
 pub mod DeclarationsSpelled
 pub mod BodiesSpelled
 pub mod ScriptSpelled
+pub mod ScriptsShown
+pub mod Shuffling
+pub mod BodiesShuffled
+pub mod AnyOrder

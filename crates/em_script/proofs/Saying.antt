@@ -72,7 +72,7 @@ abbrev pub AreSpelled : Config → List Line → State → Type 0
 AreSpelled g [] s = Unit {0}
 AreSpelled g (line ∷ more) s = IsSpelled g s line × AreSpelled g more (after line s)
 
-said-of : (g : Config) (ls : List Line) (s : State) → AreSpelled g ls s → AreMet ls s → AreSaid g ls s
+pub said-of : (g : Config) (ls : List Line) (s : State) → AreSpelled g ls s → AreMet ls s → AreSaid g ls s
 said-of g [] s spelled met = tt
 said-of g (line ∷ more) s spelled met =
     let first = spelled.0 in

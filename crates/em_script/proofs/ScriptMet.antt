@@ -118,7 +118,7 @@ declaration_met g few n ds t (Decl.Egroup k) e w =
     let some = some_at g.egroups n.egroups (omega (arith, w.egroups)) in
     rw same (egroups_met g few n ds t some.0 some.1)
 
-order_met : (g : Config) → AreFew g → (ds so_far : List Decl) (n : Counts) (t : Table) → is_order_from g ds n ≡ true → AreMet (flat_map (declared_lines g) ds) (declaring (front g n so_far) t)
+pub order_met : (g : Config) → AreFew g → (ds so_far : List Decl) (n : Counts) (t : Table) → is_order_from g ds n ≡ true → AreMet (flat_map (declared_lines g) ds) (declaring (front g n so_far) t)
 order_met g few [] so_far n t e = tt
 order_met g few (d ∷ ds) so_far n t e =
     let c = both (is_declared_next g d n) (is_order_from g ds (counted d n)) e in
@@ -152,7 +152,7 @@ light_objects-of g (d ∷ ds) e =
     let each = both (are_bodies g d) (list_all (are_bodies g) ds) e in
     λ i. light_object-of g d each.0 i && light_objects-of g ds each.1 i
 
-lights-of : (g : Config) → IsWellFormed g → are_light g ≡ true
+pub lights-of : (g : Config) → IsWellFormed g → are_light g ≡ true
 lights-of g well = λ i. light-of g Boot g.error g.boot well.boot i && light_error-of g GlobalError g.error well.error i && light_objects-of g g.eos well.eos i
 
 -- ---- the whole

@@ -18,5 +18,6 @@ pub fn spellings_are_scripts()
 
 /// What is read is a script of the graph that is found, and that graph is well formed.
 pub fn scripts_are_read()
-    ensures { (bytes : List ℕ) (graph : Config) → script_of bytes ≡ Ok graph → IsWellFormed graph × IsScript bytes graph }
+    ensures found { (bytes : List ℕ) (graph : Config) → script_of bytes ≡ Ok graph → IsWellFormed graph × IsScript bytes graph }
+    ensures only { (bytes : List ℕ) (graph : Config) → IsWellFormed graph → IsScript bytes graph → script_of bytes ≡ Ok graph }
 {}
