@@ -1,5 +1,5 @@
 -- A script of a graph, with its bodies in any order, is read as this graph.
-use Rattle.std.proofs.Common.{◌≡◌, ◌-◌, ◌^◌, ◌<◌, ℕ, Bool, true, false, not, ◌||◌, List, [], ◌∷◌, ◌++◌, length, map, Ok, IsPermutation, refl, sym, ap, subst, ◌∙◌}
+use Rattle.std.proofs.Common.{◌≡◌, ◌-◌, ◌^◌, ◌<◌, ℕ, Bool, true, false, not, ◌||◌, List, [], ◌∷◌, ◌++◌, Ok, Result, IsPermutation, refl, sym, ap, subst, ◌∙◌}
 use Rattle.std.proofs.lemmas.List.{length-map}
 use Rattle.std.specs.List.{flat_map, list_all}
 use Rattle.std.proofs.lemmas.List.Sorted.{IsPermutation-sym}
@@ -9,11 +9,12 @@ use Rattle.em_script.specs.declared.line.Line.TheVariants as lines
 use Rattle.em_script.specs.declared.line.Place.{Place}
 use Rattle.em_script.specs.declared.line.Place.TheVariants as places
 use Rattle.em_script.specs.declared.phase.Phase.TheVariants as phases
+use Rattle.em_script.specs.declared.reading.ScriptEnd.{ScriptEnd}
 use Rattle.em_script.specs.Declarations.{may_stand}
 use Rattle.em_script.specs.Judging.{are_light, is_given, unless}
 use Rattle.em_script.specs.Lines as text
 use Rattle.em_script.specs.Names.{Table, first_table}
-use Rattle.em_script.specs.Reading.{is_done, script_of}
+use Rattle.em_script.specs.Reading.{Gives, is_done, script_of}
 use Rattle.em_script.specs.Scripts.{IsScript}
 use Rattle.em_script.specs.Spelling.{Placed, arranged, bodies_of, bodies_of_objects, body_lines, declared_lines, optional_body}
 use Rattle.em_script.specs.State.{after, after_all, first_state, is_boot, with_body}
@@ -21,8 +22,8 @@ use Rattle.em_script.proofs.BlocksRead.{after_all-append}
 use Rattle.em_script.proofs.BlocksSpelled.{AreAllNamed}
 use Rattle.em_script.proofs.BodiesMet.{AreNew, body_met, later_new}
 use Rattle.em_script.proofs.BodiesRead.{AreBlocks, bare, between, bodies_of_read, bodies_read, body_read, boot_among, boot_read, unwritten, with_bodies}
-use Rattle.em_script.proofs.BodiesShuffled.{AreAlike, AreFresh, ComesTo, alike, so-many-objects}
-use Rattle.em_script.proofs.BodiesSpelled.{ArePlaced, IsPlaced, bodies_spelled, done_spelled, later-placed, place-fits}
+use Rattle.em_script.proofs.BodiesShuffled.{AreAlike, AreFresh, ComesTo, alike}
+use Rattle.em_script.proofs.BodiesSpelled.{ArePlaced, bodies_spelled, done_spelled, later-placed, place-fits}
 use Rattle.em_script.proofs.DeclarationForms.{first_word}
 use Rattle.em_script.proofs.DeclarationsRead.{all_named, declaring, order_read}
 use Rattle.em_script.proofs.DeclarationsSpelled.{cores_spelled, knows-first, order-knows, order_spelled}
@@ -118,10 +119,16 @@ read-as g well bodies to =
     let last : AreMet done (between g t true) = (unless-met (are_light g) 9 (lights-of g well), tt) in
     record {
       read = after_all-append declared (given ++ done) (after (lines.Cores g.cores) first_state) ∙ ap (after_all (given ++ done)) ordered ∙ after_all-append given done (declaring (unwritten g) t) ∙ ap (after_all done) whole;
-      met = (refl, AreMet-append declared (given ++ done) (after (lines.Cores g.cores) first_state) (order_met g well.few g.order [] no_counts first_table well.order)
-        (subst (AreMet (given ++ done)) (sym ordered) (AreMet-append given done (declaring (unwritten g) t) (begun-met g t bodies (unwritten g) booted to.fresh) (subst (AreMet done) (sym whole) last))));
-      spelled = ((cores_spelled g well).0, AreSpelled-append g declared (given ++ done) (after (lines.Cores g.cores) first_state) (order_spelled g well g.order [] no_counts first_table well.order (knows-first g))
-        (subst (AreSpelled g (given ++ done)) (sym ordered) (AreSpelled-append g given done (declaring (unwritten g) t) (begun-spelled g t k bodies (unwritten g) booted few placed blocks) (subst (AreSpelled g done) (sym whole) (done_spelled g t k g true few)))));
+      met = (
+        refl,
+        AreMet-append declared (given ++ done) (after (lines.Cores g.cores) first_state) (order_met g well.few g.order [] no_counts first_table well.order)
+            (subst (AreMet (given ++ done)) (sym ordered) (AreMet-append given done (declaring (unwritten g) t) (begun-met g t bodies (unwritten g) booted to.fresh) (subst (AreMet done) (sym whole) last))),
+      );
+      spelled = (
+        (cores_spelled g well).0,
+        AreSpelled-append g declared (given ++ done) (after (lines.Cores g.cores) first_state) (order_spelled g well g.order [] no_counts first_table well.order (knows-first g))
+            (subst (AreSpelled g (given ++ done)) (sym ordered) (AreSpelled-append g given done (declaring (unwritten g) t) (begun-spelled g t k bodies (unwritten g) booted few placed blocks) (subst (AreSpelled g done) (sym whole) (done_spelled g t k g true few)))),
+      );
     }
 
 -- a script of a graph is read as this graph
@@ -132,3 +139,7 @@ script-read bytes g well script =
     let said = said-of g (arranged g bodies) first_state whole.spelled whole.met in
     let done : is_done (after_all (arranged g bodies) first_state).phase ≡ true = ap (λ s. is_done s.phase) whole.read in
     sym (script-begins bytes) ∙ found-shown g (text.lines bytes) (arranged g bodies) 1 first_state script.plain script.written said done ∙ ap (λ s. Ok s.graph) whole.read
+
+-- an answer that gives what is found gives this graph
+pub script-given : (bytes : List ℕ) (r : Result Config ScriptEnd) → Gives r (script_of bytes) → (g : Config) → IsWellFormed g → IsScript bytes g → Gives r (Ok g)
+script-given bytes r given g well script = subst (λ found. Gives r found) (script-read bytes g well script) given

@@ -1,10 +1,10 @@
 -- Lines of any spacing, with blank lines and comments between them, are read as what their tokens say.
-use Rattle.std.proofs.Common.{◌≡◌, ℕ, ◌+◌, Bool, true, false, not, cond, List, [], ◌∷◌, map, Ok, refl, sym, ap, subst, ◌∙◌}
+use Rattle.std.proofs.Common.{◌≡◌, ℕ, ◌+◌, Bool, true, false, not, cond, List, [], ◌∷◌, map, Ok, refl, sym, ap, ◌∙◌}
 use Rattle.std.specs.List.{list_all}
 use Rattle.em_log.specs.declared.graph.Config.{Config}
 use Rattle.em_script.specs.declared.judging.Judged.TheVariants as judgments
 use Rattle.em_script.specs.declared.line.Line.{Line}
-use Rattle.em_script.specs.Judging.{is_skipped, judge, read_by_phase, resolved}
+use Rattle.em_script.specs.Judging.{is_skipped, judge}
 use Rattle.em_script.specs.Lines.{is_plain_line, tokens}
 use Rattle.em_script.specs.Names.{writing}
 use Rattle.em_script.specs.Reading.{found_from, is_done}

@@ -16,7 +16,8 @@ pub fn spellings_are_scripts()
     ensures { (graph : Config) → IsWellFormed graph → IsScript (spelling graph) graph }
 {}
 
-/// What is read is a script of the graph that is found, and that graph is well formed.
+/// What is read is a script of the graph that is found, and that graph is well formed; each script of such a graph is read
+/// as that graph.
 pub fn scripts_are_read()
     ensures found { (bytes : List ℕ) (graph : Config) → script_of bytes ≡ Ok graph → IsWellFormed graph × IsScript bytes graph }
     ensures only { (bytes : List ℕ) (graph : Config) → IsWellFormed graph → IsScript bytes graph → script_of bytes ≡ Ok graph }

@@ -96,6 +96,9 @@ pub fn parse(alloc: Global, bytes: &[u8]) -> Result<Config, ScriptEnd>
     // What is read is a script of a graph that is well formed.
     ensures found { IfOk result (λ graph. IsWellFormed graph × IsScript bytes.now graph) }
 
+    // Each script of such a graph is read, unless memory runs out.
+    ensures only { (graph : Config) → IsWellFormed graph → IsScript bytes.now graph → Gives result (Ok graph) }
+
     // Which line fails, and by which rule.
     ensures exact { Gives result (script_of bytes.now) }
 {

@@ -4,6 +4,7 @@ use Rattle.em_log.specs.WellFormed.{IsWellFormed}
 use Rattle.em_script.specs.declared.reading.ScriptEnd.{ScriptEnd}
 use Rattle.em_script.specs.Reading.{Gives, script_of}
 use Rattle.em_script.specs.Scripts.{IsScript}
+use Rattle.em_script.proofs.AnyOrder.{script-given}
 use Rattle.em_script.proofs.Reached.{script-found}
 use Rattle.em_script.proofs.WellFound.{well-found}
 use Rattle.em_script.proofs.reading.parse.Goals as goal
@@ -14,3 +15,6 @@ found bytes (Err e) is = tt
 
 pub returns-clause-found : goal.returns-clause-found
 returns-clause-found c = found c.args.bytes.now c.read_lines.result c.read_lines.ensures
+
+pub returns-clause-only : goal.returns-clause-only
+returns-clause-only c = λ graph well script. script-given c.args.bytes.now c.read_lines.result c.read_lines.ensures graph well script
