@@ -14,3 +14,5 @@ pub mod Bounds
 pub mod SilentMoves
 pub mod LeadsRead
 pub mod ExampleGraph
+pub mod OneStatementFits
+pub mod OneStatementGraph

@@ -5,3 +5,4 @@ pub mod Runs
 pub mod MoveLaws
 pub mod Followed
 pub mod Example
+pub mod OneStatement

@@ -5,6 +5,8 @@ ghost use Rattle.em_log.specs.Works.{fits as fits_by};
 ghost use Rattle.em_body.specs.Example.{example, counting};
 ghost use Rattle.em_body.specs.Standings.{is_small, unanswered};
 
+mod bodies;
+
 use super::*;
 use em_log::{
     Ask, Block, Decl, EoDecl, EoId, Event, EventGroupId, Expr, Fault, Given, GroupId, Handle, Kind,
