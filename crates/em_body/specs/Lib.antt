@@ -1,3 +1,4 @@
+pub mod Everywhere
 pub mod Environments
 pub mod Standings
 pub mod Frames

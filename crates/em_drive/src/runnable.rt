@@ -1,0 +1,73 @@
+//! Which graphs run today.
+ghost use Rattle.std.specs.Prelude.{◌≡◌};
+ghost use Rattle.em_body.specs.Everywhere.{everywhere, everywhere_in};
+ghost use Rattle.em_drive.specs.Runnable as runnable;
+
+use em_log::{Block, Config, EoDecl, GroupId, Kind, Priority, QueueDecl, Stmt};
+
+/// Whether the statement runs, with all blocks that lie in it.
+#[cycle(bodies)]
+fn is_runnable_statement(statement: &Stmt) -> bool
+    ensures { result ≡ everywhere runnable.is_runnable_statement statement.now }
+{
+    match statement {
+        Stmt::If { yes, no, .. } => {
+            let first = is_runnable_body(yes.as_slice());
+            let second = is_runnable_body(no.as_slice());
+            first && second
+        }
+        Stmt::Repeat { block, .. } => is_runnable_body(block.as_slice()),
+        Stmt::Set { .. }
+        | Stmt::Say(_)
+        | Stmt::Alloc { .. }
+        | Stmt::Free(_)
+        | Stmt::Keep(_)
+        | Stmt::Send { .. }
+        | Stmt::Claim { .. } => true,
+        _ => false,
+    }
+}
+
+#[cycle(bodies)]
+fn is_runnable_body(body: &[Stmt]) -> bool
+    ensures { result ≡ everywhere_in runnable.is_runnable_statement body.now }
+{
+    for statement in body {
+        if !is_runnable_statement(statement) {
+            return false;
+        }
+    }
+    true
+}
+
+fn is_runnable_object(object: &EoDecl) -> bool
+    ensures { result ≡ runnable.is_runnable_object object.now }
+{
+    let given = object.given;
+    object.running
+        && is_runnable_body(object.receive.as_slice())
+        && !(given.start || given.stop || given.lstart || given.lstop)
+        && object.error.is_none()
+}
+
+fn is_runnable_queue(queue: &QueueDecl) -> bool
+    ensures { result ≡ runnable.is_runnable_queue queue.now }
+{
+    queue.kind == Kind::Parallel
+        && queue.priority == Some(Priority::Normal)
+        && queue.group == Some(GroupId(0))
+}
+
+/// Whether the graph runs today.
+pub fn is_runnable(config: &Config) -> bool
+    ensures { result ≡ runnable.is_runnable config.now }
+{
+    config.cores == 1
+        && config.groups.as_slice().is_empty()
+        && config.agroups.as_slice().is_empty()
+        && config.egroups.as_slice().is_empty()
+        && config.eos.as_slice().iter().all(is_runnable_object)
+        && config.queues.as_slice().iter().all(is_runnable_queue)
+        && is_runnable_body(config.boot.as_slice())
+        && config.error.is_none()
+}
