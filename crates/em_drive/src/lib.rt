@@ -2,9 +2,9 @@
 #![tactic(auto)]
 
 mod order;
+mod run;
 mod runnable;
-mod solo;
 
 pub use order::Order;
+pub use run::solo;
 pub use runnable::is_runnable;
-pub use solo::solo;
