@@ -13,7 +13,7 @@ use Rattle.em_log.specs.Legal.{Lead, leads, whats, AreLeads, body_of, opening}
 use Rattle.em_log.specs.Works.{Exchange}
 use Rattle.em_core.specs.Pieces.{Piece, begun_by}
 use Rattle.em_body.specs.Followed.{AreRead, pairs_of}
-use Rattle.em_body.specs.Standings as body
+use Rattle.em_body.specs.Standings as work
 
 -- the entries that the asks of the open context gave, the newest first
 abbrev pub asked_entries : List Piece → List What
@@ -27,11 +27,11 @@ asked_entries (Piece.Answered w tail a x ∷ m) = w ∷ asked_entries m
 pub record IsReading (g : Config) (past : Past) (c : ℕ) (context : Context) (es : List Exchange) (ws : List What) : Type 0 where
   pub begun : log.context past c ≡ Some (begun_by context)
   pub kind : IsTrue (is_boot_or_receive (Some (begun_by context)))
-  pub body : body_of g past c ≡ body.body_of g context
-  pub opening : opening (declarations_of g) past c ≡ body.opening c context
+  pub body : body_of g past c ≡ work.body_of g context
+  pub first : opening (declarations_of g) past c ≡ work.opening c context
   pub entries : whats (leads (declarations_of g) past c) ≡ reverse ws
   pub read : AreRead es ws
-  pub leads : AreLeads (declarations_of g) c (reverse (pairs_of es ws)) (leads (declarations_of g) past c)
+  pub each : AreLeads (declarations_of g) c (reverse (pairs_of es ws)) (leads (declarations_of g) past c)
   pub cost : sum_by (λ l. cost_of_lead l.what) (leads (declarations_of g) past c) ≤ sum_by (λ x. cost_of_ask x.ask) es
 
 -- core c is between contexts, or in this one
