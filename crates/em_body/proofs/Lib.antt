@@ -13,6 +13,7 @@ pub mod Measures
 pub mod Bounds
 pub mod SilentMoves
 pub mod LeadsRead
+pub mod AsksOfStatements
 pub mod ExampleGraph
 pub mod OneStatementFits
 pub mod OneStatementGraph
