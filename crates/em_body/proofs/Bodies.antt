@@ -42,15 +42,21 @@ small g w (suc d) s h = plain-small g w s h
 
 -- the body of a context is one of the graph's, or empty
 
--- a body that some error body may serve, somewhere
-pub record IsServed (g : Config) (body : List Stmt) : Type 0 where
-  pub place : Where
+-- where the body of a context stands
+abbrev pub place_of : Context → Where
+place_of Context.Boot = Boot
+place_of (Context.Receive r) = Receive
+place_of (Context.GlobalStart op x) = Start
+place_of c = OtherOfObject
+
+-- a body in this place that some error body may serve
+pub record IsServed (g : Config) (w : Where) (body : List Stmt) : Type 0 where
   pub error : Option (List Stmt)
-  pub fits : IsTrue (is_body g place error body)
+  pub fits : IsTrue (is_body g w error body)
 
 -- no statements are a body anywhere
-empty-served : (g : Config) → IsServed g []
-empty-served g = record { place = Boot; error = None; fits = refl }
+empty-served : (g : Config) (w : Where) → IsServed g w []
+empty-served g w = record { error = None; fits = refl }
 
 all-get : {X : Type 0} (p : X → Bool) (xs : List X) (i : ℕ) (x : X) → list_all p xs ≡ true → slice_get xs i ≡ Some x → p x ≡ true
 all-get p [] i x all is = absurd (cc is)
@@ -58,11 +64,11 @@ all-get p (y ∷ ys) zero x all is = let e : y ≡ x = cc is in subst (λ z. p z
 all-get p (y ∷ ys) (suc i) x all is = all-get p ys i x (and_parts (p y) (list_all p ys) all).1 is
 
 pub record ServesAll (g : Config) (d : EoDecl) : Type 0 where
-  pub receive : IsServed g d.receive
-  pub start : IsServed g d.start
-  pub stop : IsServed g d.stop
-  pub lstart : IsServed g d.lstart
-  pub lstop : IsServed g d.lstop
+  pub receive : IsServed g Receive d.receive
+  pub start : IsServed g Start d.start
+  pub stop : IsServed g OtherOfObject d.stop
+  pub lstart : IsServed g OtherOfObject d.lstart
+  pub lstop : IsServed g OtherOfObject d.lstop
 
 object-served : (g : Config) (d : EoDecl) → IsTrue (are_bodies g d) → ServesAll g d
 object-served g d h =
@@ -78,15 +84,15 @@ object-served g d h =
     let f = and_parts (is_body g Receive error d.receive && is_body g Start error d.start) (is_body g OtherOfObject error d.stop) e.0 in
     let h = and_parts (is_body g Receive error d.receive) (is_body g Start error d.start) f.0 in
     record {
-      receive = record { place = Receive; error = error; fits = h.0 };
-      start = record { place = Start; error = error; fits = h.1 };
-      stop = record { place = OtherOfObject; error = error; fits = f.1 };
-      lstart = record { place = OtherOfObject; error = error; fits = e.1 };
-      lstop = record { place = OtherOfObject; error = error; fits = c.1 };
+      receive = record { error = error; fits = h.0 };
+      start = record { error = error; fits = h.1 };
+      stop = record { error = error; fits = f.1 };
+      lstart = record { error = error; fits = e.1 };
+      lstop = record { error = error; fits = c.1 };
     }
 
-for-served : (g : Config) (d : EoDecl) → ServesAll g d → (c : Context) → IsServed g (body_for (Some (entry_of c)) d)
-for-served g d all Context.Boot = empty-served g
+for-served : (g : Config) (d : EoDecl) → ServesAll g d → (c : Context) → IsServed g (place_of c) (body_for (Some (entry_of c)) d)
+for-served g d all Context.Boot = empty-served g Boot
 for-served g d all (Context.Receive r) = all.receive
 for-served g d all (Context.GlobalStart op x) = all.start
 for-served g d all (Context.LocalStart op x) = all.lstart
@@ -94,12 +100,12 @@ for-served g d all (Context.LocalStop op x) = all.lstop
 for-served g d all (Context.GlobalStop op x) = all.stop
 
 declared-served : (g : Config) → IsWellFormed g → (i : ℕ) (c : Context) (o : Option EoDecl) → slice_get g.eos i ≡ o
-    → IsServed g (option_map_or (body_for (Some (entry_of c))) o [])
-declared-served g well i c None is = empty-served g
+    → IsServed g (place_of c) (option_map_or (body_for (Some (entry_of c))) o [])
+declared-served g well i c None is = empty-served g (place_of c)
 declared-served g well i c (Some d) is = for-served g d (object-served g d (all-get (are_bodies g) g.eos i d well.eos is)) c
 
-pub body-served : (g : Config) → IsWellFormed g → (c : Context) → IsServed g (body_of g c)
-body-served g well Context.Boot = record { place = Boot; error = g.error; fits = well.boot }
+pub body-served : (g : Config) → IsWellFormed g → (c : Context) → IsServed g (place_of c) (body_of g c)
+body-served g well Context.Boot = record { error = g.error; fits = well.boot }
 body-served g well (Context.Receive r) = declared-served g well r.eo.0 (Context.Receive r) _ refl
 body-served g well (Context.GlobalStart op x) = declared-served g well x.0 (Context.GlobalStart op x) _ refl
 body-served g well (Context.LocalStart op x) = declared-served g well x.0 (Context.LocalStart op x) _ refl
@@ -108,17 +114,20 @@ body-served g well (Context.GlobalStop op x) = declared-served g well x.0 (Conte
 
 -- such a body's statements, weight and steps
 
-pub served-statements : (g : Config) (body : List Stmt) (s : IsServed g body) → IsTrue (list_all (is_statement g s.place 16) body)
-served-statements g body s =
+pub served-statements : (g : Config) (w : Where) (body : List Stmt) → IsServed g w body → IsTrue (list_all (is_statement g w 16) body)
+served-statements g w body s =
     let error : Option (List Stmt) = s.error in
-    let a = and_parts (list_all (is_statement g s.place 16) body && nat_le (weight_of (option_map_or (weight_of 0) error 0) body) 256)
+    let a = and_parts (list_all (is_statement g w 16) body && nat_le (weight_of (option_map_or (weight_of 0) error 0) body) 256)
     (nat_le (steps_of (option_map_or (steps_of 0) error 0) body) 65536) s.fits in
-    (and_parts (list_all (is_statement g s.place 16) body) (nat_le (weight_of (option_map_or (weight_of 0) error 0) body) 256) a.0).0
+    (and_parts (list_all (is_statement g w 16) body) (nat_le (weight_of (option_map_or (weight_of 0) error 0) body) 256) a.0).0
+
+pub body-statements : (g : Config) → IsWellFormed g → (c : Context) → IsTrue (list_all (is_statement g (place_of c) 16) (body_of g c))
+body-statements g well c = served-statements g (place_of c) (body_of g c) (body-served g well c)
 
 pub begun-sound : (g : Config) → IsWellFormed g → (c : Context) → IsSound g (entered (body_of g c) 1 [])
 begun-sound g well c =
-    let s = body-served g well c in
+    let w : Where = place_of c in
     record {
       graph = well;
-      nested = (s.place, nested-less g s.place 16 0 _ (omega arith) (entered-nested g s.place 16 (body_of g c) 1 [] (served-statements g (body_of g c) s) (omega arith)));
+      nested = (w, nested-less g w 16 0 _ (omega arith) (entered-nested g w 16 (body_of g c) 1 [] (body-statements g well c) (omega arith)));
     }

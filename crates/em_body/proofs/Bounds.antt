@@ -9,6 +9,7 @@ use Rattle.em_log.specs.declared.ask.Answer.{Answer}
 use Rattle.em_log.specs.declared.ask.Ask.{Ask}
 use Rattle.em_log.specs.declared.ask.Context.{Context}
 use Rattle.em_log.specs.declared.body.Stmt.{Stmt}
+use Rattle.em_log.specs.declared.graph.Config.{Config}
 use Rattle.em_log.specs.declared.work.Move.{Move}
 use Rattle.em_log.specs.Allowance.{cost_of_ask}
 use Rattle.em_log.specs.Weights.{weight, weight_of, steps, steps_of}
@@ -16,7 +17,7 @@ use Rattle.em_log.specs.WellFormed.{IsWellFormed, is_statement}
 use Rattle.em_log.specs.Works.{Exchange, Reached}
 use Rattle.em_body.specs.Standings.{Made, Standing, unanswered, body_of}
 use Rattle.em_body.specs.Followed.{IsReached, carried_out, cost_of_all}
-use Rattle.em_body.proofs.Bodies.{body-served}
+use Rattle.em_body.proofs.Bodies.{place_of, body-served}
 use Rattle.em_body.proofs.Measures.{total, left_sum, entered-sum, weight_of-sum, steps_of-sum, moves-weight, moves-steps}
 
 abbrev body-weight : ℕ → Made → Context → ℕ
@@ -52,7 +53,7 @@ reached-cost e f c es s (Reached.Answered _ past was _ a x before some fits leav
     let k = answered-cost es past was s a x some (ap unanswered leaves) is in
     let l : left_sum (weight e) s.left ≡ left_sum (weight e) was.left = ap (λ t. left_sum (weight e) t.left) leaves in omega arith
 
-reached-steps : (e : ℕ) (f : Made) (c : Context) (es : List Exchange) (s : Standing) (r : IsReached f c es s)
+pub reached-steps : (e : ℕ) (f : Made) (c : Context) (es : List Exchange) (s : Standing) (r : IsReached f c es s)
     → carried_out r + left_sum (steps e) s.left ≤ body-steps e f c
 reached-steps e f c es s (Reached.Begun _ _ none begins) =
     let l : left_sum (steps e) s.left ≡ 1 * body-steps e f c + 0 = ap (λ t. left_sum (steps e) t.left) begins ∙ entered-sum (steps e) (body_of f.graph c) 1 [] in
@@ -67,19 +68,39 @@ reached-steps e f c es s (Reached.Answered _ past was _ a x before some fits lea
     let h = reached-steps e f c past was before in
     let l : left_sum (steps e) s.left ≡ left_sum (steps e) was.left = ap (λ t. left_sum (steps e) t.left) leaves in omega arith
 
+-- the weight and the steps of a context's body, with those of the error body that may serve its faults
+record IsLight (g : Config) (c : Context) : Type 0 where
+  weight : ℕ
+  steps : ℕ
+  light : weight_of weight (body_of g c) ≤ 256
+  few : steps_of steps (body_of g c) ≤ 65536
+
+is-light : (g : Config) → IsWellFormed g → (c : Context) → IsLight g c
+is-light g well c =
+    let b = body-served g well c in
+    let body : List Stmt = body_of g c in
+    let w : ℕ = option_map_or (weight_of 0) b.error 0 in
+    let t : ℕ = option_map_or (steps_of 0) b.error 0 in
+    let whole = and_parts (list_all (is_statement g (place_of c) 16) body && nat_le (weight_of w body) 256) (nat_le (steps_of t body) 65536) b.fits in
+    let light = (and_parts (list_all (is_statement g (place_of c) 16) body) (nat_le (weight_of w body) 256) whole.0).1 in
+    record {
+      weight = w;
+      steps = t;
+      light = leb-true (weight_of w body) 256 light;
+      few = leb-true (steps_of t body) 65536 whole.1;
+    }
+
+pub few-steps : (g : Config) → IsWellFormed g → (c : Context) → (e : ℕ) × (steps_of e (body_of g c) ≤ 65536)
+few-steps g well c = let h = is-light g well c in (h.steps, h.few)
+
 pub bounded : (f : Made) → IsWellFormed f.graph → (c : Context) (es : List Exchange) (s : Standing) (r : IsReached f c es s)
     → (cost_of_all es s ≤ 256) × (carried_out r ≤ 65536)
 bounded f well c es s r =
-    let b = body-served f.graph well c in
-    let body : List Stmt = body_of f.graph c in
-    let w : ℕ = option_map_or (weight_of 0) b.error 0 in
-    let t : ℕ = option_map_or (steps_of 0) b.error 0 in
-    let whole = and_parts (list_all (is_statement f.graph b.place 16) body && nat_le (weight_of w body) 256) (nat_le (steps_of t body) 65536) b.fits in
-    let light = (and_parts (list_all (is_statement f.graph b.place 16) body) (nat_le (weight_of w body) 256) whole.0).1 in
-    let k = reached-cost w f c es s r in
-    let n = reached-steps t f c es s r in
-    let a = weight_of-sum w body in
-    let d = steps_of-sum t body in
-    let low : weight_of w body ≤ 256 = leb-true (weight_of w body) 256 light in
-    let few : steps_of t body ≤ 65536 = leb-true (steps_of t body) 65536 whole.1 in
+    let h = is-light f.graph well c in
+    let k = reached-cost h.weight f c es s r in
+    let n = reached-steps h.steps f c es s r in
+    let a = weight_of-sum h.weight (body_of f.graph c) in
+    let d = steps_of-sum h.steps (body_of f.graph c) in
+    let low = h.light in
+    let few = h.few in
     (omega arith, omega arith)

@@ -13,6 +13,11 @@ pub mod Measures
 pub mod Bounds
 pub mod SilentMoves
 pub mod LeadsRead
+pub mod AsksOfStatements
+pub mod PlainStatements
+pub mod EightCells
+pub mod AsksStand
+pub mod StepsLeft
 pub mod ExampleGraph
 pub mod OneStatementFits
 pub mod OneStatementGraph

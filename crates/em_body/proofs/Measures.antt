@@ -66,7 +66,7 @@ step-served : (e n : ℕ) → 1 ≤ served_step e n
 step-served e zero = omega arith
 step-served e (suc n) = omega arith
 
-length-notes : (ns : List _) (v : Env) → length (notes_in ns v) ≡ length ns
+pub length-notes : (ns : List _) (v : Env) → length (notes_in ns v) ≡ length ns
 length-notes [] v = refl
 length-notes (n ∷ ns) v = ap suc (length-notes ns v)
 

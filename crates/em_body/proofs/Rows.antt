@@ -13,6 +13,7 @@ use Rattle.em_log.specs.Expressions.{Env, value}
 use Rattle.em_log.specs.Bodies.{Handler, branch, turns, and_then, follow, follow_row, follow_all}
 use Rattle.em_log.specs.Weights.{weight, weight_row, weight_of, steps, steps_row, steps_of}
 use Rattle.em_log.specs.WellFormed.{Where, is_statement, are_statements, is_expression, is_empty_row}
+use Rattle.em_body.specs.Everywhere.{everywhere, everywhere_row, everywhere_in}
 
 row-statements : (g : Config) (w : Where) (d : ℕ) (ss : List Stmt) → are_statements g w d (hidden-the_row-Stmt-0 ss) ≡ list_all (is_statement g w d) ss
 unfolding Rattle.em_log.specs.declared.body.Stmt.TheBlock.hidden-the_row-Stmt-0 denote.Hole.Carrier.hidden
@@ -33,6 +34,11 @@ row-steps : (e : ℕ) (ss : List Stmt) → steps_row e (hidden-the_row-Stmt-0 ss
 unfolding Rattle.em_log.specs.declared.body.Stmt.TheBlock.hidden-the_row-Stmt-0 denote.Hole.Carrier.hidden
 row-steps e [] = refl
 row-steps e (s ∷ ss) = ap (λ n. steps e s + n) (row-steps e ss)
+
+row-everywhere : (p : Stmt → Bool) (ss : List Stmt) → everywhere_row p (hidden-the_row-Stmt-0 ss) ≡ everywhere_in p ss
+unfolding Rattle.em_log.specs.declared.body.Stmt.TheBlock.hidden-the_row-Stmt-0 denote.Hole.Carrier.hidden
+row-everywhere p [] = refl
+row-everywhere p (s ∷ ss) = ap (λ b. everywhere p s && b) (row-everywhere p ss)
 
 -- the same at the statements that hold blocks
 
@@ -88,3 +94,14 @@ if-steps e t first second b =
 pub repeat-steps : (e n : ℕ) (block : List Stmt) → steps e (stmt.Repeat n block) ≡ 1 + n * steps_of e block
 unfolding Rattle.em_log.specs.declared.body.Stmt.TheBlock.hidden-the_row-Stmt-0 denote.Hole.Carrier.hidden
 repeat-steps e n block = ap (λ m. 1 + n * m) (row-steps e block)
+
+pub if-everywhere : (p : Stmt → Bool) (t : Expr) (first second : List Stmt) (b : Bool)
+    → everywhere p (stmt.If t first second b) ≡ (everywhere_in p first && everywhere_in p second)
+unfolding Rattle.em_log.specs.declared.body.Stmt.TheBlock.hidden-the_row-Stmt-0 denote.Hole.Carrier.hidden
+if-everywhere p t first second b =
+    ap (λ x. x && everywhere_row p (hidden-the_row-Stmt-0 second)) (row-everywhere p first)
+    ∙ ap (λ x. everywhere_in p first && x) (row-everywhere p second)
+
+pub repeat-everywhere : (p : Stmt → Bool) (n : ℕ) (block : List Stmt) → everywhere p (stmt.Repeat n block) ≡ everywhere_in p block
+unfolding Rattle.em_log.specs.declared.body.Stmt.TheBlock.hidden-the_row-Stmt-0 denote.Hole.Carrier.hidden
+repeat-everywhere p n block = row-everywhere p block

@@ -1,5 +1,5 @@
 -- A body is followed: what its asks are answered is what the reading of the body makes of it.
-use Rattle.std.specs.Prelude.{ℕ, suc, ◌+◌, ◌≤◌, ◌≡◌, Bool, true, false, List, [], ◌∷◌, ◌++◌, reverse, Option, Some, None, IsTrue, IsSome}
+use Rattle.std.specs.Prelude.{ℕ, suc, ◌+◌, ◌*◌, ◌≤◌, ◌≡◌, Bool, true, false, List, [], ◌∷◌, ◌++◌, reverse, Option, Some, None, IsTrue, IsSome}
 use Rattle.std.specs.Option.{option_map_or}
 use Rattle.std.specs.List.{sum_by}
 use Rattle.em_log.specs.declared.ask.Answer.{Answer}
@@ -16,6 +16,7 @@ use Rattle.em_log.specs.Answers.{answer_of}
 use Rattle.em_log.specs.Bodies.{Pair, Reading, Behavior, Handler, ask_of, variable, asks, stays, and_then, turns, with_pairs, follow_all, serves}
 use Rattle.em_log.specs.History.{Past}
 use Rattle.em_log.specs.Leads.{call_of, lead}
+use Rattle.em_log.specs.Weights.{steps_of}
 use Rattle.em_log.specs.WellFormed.{IsWellFormed}
 use Rattle.em_log.specs.Works.{Exchange, Reached, is_end}
 use Rattle.em_body.specs.Standings.{Left, Made, Standing, Begins, Moves, Leaves, unanswered, body_of, opening, first_of, does_ask}
@@ -133,6 +134,20 @@ cost_of_all es s = sum_by (λ x. cost_of_ask x.ask) es + option_map_or cost_of_a
 abbrev pub ContextsAreBounded : Type 0
 ContextsAreBounded = (f : Made) → IsWellFormed f.graph → (c : Context) (es : List Exchange) (s : Standing) (r : IsReached f c es s)
     → (cost_of_all es s ≤ 256) × (carried_out r ≤ 65536)
+
+-- the steps of the statements that are left, where no error body serves a fault
+abbrev pub steps_left : Standing → ℕ
+steps_left s = sum_by (λ l. steps_of 0 l.rest + l.again * steps_of 0 l.block) s.left
+
+-- in a context of a well-formed graph at most 65,536 steps are left
+abbrev pub StepsAreBounded : Type 0
+StepsAreBounded = (f : Made) → IsWellFormed f.graph → (c : Context) (es : List Exchange) (s : Standing) → IsReached f c es s
+    → steps_left s ≤ 65536
+
+-- each move but the end leaves fewer steps
+abbrev pub StepsFall : Type 0
+StepsFall = (f : Made) (s : Standing) (m : Move) (t : Standing) → Moves f s m t → ((m ≡ Move.End) → ⊥)
+    → suc (steps_left t) ≤ steps_left s
 
 -- a silent move carries out one statement, which asks nothing
 abbrev pub SilentWhereNothingIsAsked : Type 0

@@ -5,5 +5,7 @@ pub mod Frames
 pub mod Runs
 pub mod MoveLaws
 pub mod Followed
+pub mod Everywhere
+pub mod AskLaws
 pub mod Example
 pub mod OneStatement

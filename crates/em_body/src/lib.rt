@@ -7,7 +7,8 @@ pub mod run;
 mod stack;
 mod values;
 
-ghost use Rattle.em_body.specs.Followed.{BodiesAreFollowed, ContextsAreBounded, EndsWhereNothingIsLeft, LeadsAreRead, SilentWhereNothingIsAsked};
+ghost use Rattle.em_body.specs.AskLaws.{AsksAreOfStatements, AsksMayStand};
+ghost use Rattle.em_body.specs.Followed.{BodiesAreFollowed, ContextsAreBounded, EndsWhereNothingIsLeft, LeadsAreRead, SilentWhereNothingIsAsked, StepsAreBounded, StepsFall};
 
 pub use run::BodyRun;
 
@@ -37,4 +38,21 @@ pub fn contexts_are_bounded()
 /// answers holds along the entries of a history.
 pub fn leads_are_read()
     ensures { LeadsAreRead }
+{}
+
+/// In each state that a context reaches, the unanswered ask is that of a statement of the context's body, which asks in
+/// the environment of that state.
+pub fn asks_are_of_statements()
+    ensures { AsksAreOfStatements }
+{}
+
+/// In a well-formed graph each ask of a context may stand in it, and all that the ask names is declared.
+pub fn asks_may_stand()
+    ensures { AsksMayStand }
+{}
+
+/// In a context of a well-formed graph at most 65,536 steps are left, and each move but the end leaves fewer.
+pub fn steps_run_out()
+    ensures bounded { StepsAreBounded }
+    ensures fall { StepsFall }
 {}

@@ -1,0 +1,196 @@
+-- A statement of a well-formed body asks for what is declared, and where its ask may stand.
+use mathlib.Core.Former.{Count}
+use Rattle.std.proofs.Common.{◌≡◌, ℕ, zero, suc, ◌%◌, ◌^◌, ◌&&◌, ◌||◌, nat_eq, Bool, true, List, [], ◌∷◌, length, map, Option, Some, None, IsTrue, refl, sym, ap, subst, arith}
+use Rattle.std.proofs.lemmas.Bool.{and_parts, and_from, lt-ltb}
+use Rattle.std.proofs.lemmas.List.{length-map}
+use Rattle.std.proofs.lemmas.Nat.{mod_below}
+use Rattle.std.specs.Prelude.{not, nat_le, nat_lt, is_none}
+use Rattle.std.specs.Option.{option_map_or}
+use Rattle.std.specs.List.{list_all}
+use Rattle.em_log.specs.declared.ask.Ask.{Ask}
+use Rattle.em_log.specs.declared.ask.Context.{Context}
+use Rattle.em_log.specs.declared.body.Expr.{Expr}
+use Rattle.em_log.specs.declared.body.Stmt.{Stmt}
+use Rattle.em_log.specs.declared.body.Stmt.TheBlock.{Row_of-Stmt, end_of-Stmt, more_of-Stmt}
+use Rattle.em_log.specs.declared.graph.Config.{Config}
+use Rattle.em_log.specs.declared.ids.QueueId.{QueueId}
+use Rattle.em_log.specs.Bodies.{ask_of, notes_in, zeros_or}
+use Rattle.em_log.specs.Contexts.{is_boot}
+use Rattle.em_log.specs.Declarations.{declarations_of, pool_shape, queue_shape, eo_shape, group_shape}
+use Rattle.em_log.specs.Expressions.{Env, value, values}
+use Rattle.em_log.specs.Lawful.{are_cells, is_boot_or_receive, is_declared, is_global_start, is_placed, is_queue, are_notes}
+use Rattle.em_log.specs.WellFormed.{Where, is_statement, are_statements, is_plain, is_expression, are_expressions, is_empty_row, is_variable, is_queue_number, is_group_number, is_note, are_note_expressions, may_begin, may_fail, is_of_object}
+use Rattle.em_body.specs.Everywhere.{everywhere, everywhere_row, everywhere_in}
+use Rattle.em_body.specs.Standings.{does_ask, entry_of}
+use Rattle.em_body.proofs.Bodies.{place_of}
+use Rattle.em_body.proofs.Measures.{length-notes}
+
+-- the statements of a body that hold no blocks, those in blocks among them
+
+if-blocks : {m n : Count} (g : Config) (w : Where) (d : ℕ) (e : Expr) (first : Row_of-Stmt m) (second : Row_of-Stmt n) (has_else : Bool)
+    → IsTrue (is_expression e && are_statements g w d first && are_statements g w d second && (has_else || is_empty_row second))
+    → IsTrue (are_statements g w d first) × IsTrue (are_statements g w d second)
+if-blocks g w d e first second has_else fits =
+    let a = and_parts (is_expression e && are_statements g w d first && are_statements g w d second) (has_else || is_empty_row second) fits in
+    let b = and_parts (is_expression e && are_statements g w d first) (are_statements g w d second) a.0 in
+    ((and_parts (is_expression e) (are_statements g w d first) b.0).1, b.1)
+
+mutual
+  everywhere-plain : (g : Config) (w : Where) (d : ℕ) (s : Stmt) → IsTrue (is_statement g w d s) → IsTrue (everywhere (is_plain g w) s)
+  everywhere-plain g w zero (Stmt.If' e _ first _ second has_else) fits = absurd cc
+  everywhere-plain g w (suc d) (Stmt.If' e _ first _ second has_else) fits =
+      let b = if-blocks g w d e first second has_else fits in
+      and_from (everywhere_row (is_plain g w) first) (everywhere_row (is_plain g w) second) (row-plain g w d first b.0) (row-plain g w d second b.1)
+  everywhere-plain g w zero (Stmt.Repeat' n _ block) fits = absurd cc
+  everywhere-plain g w (suc d) (Stmt.Repeat' n _ block) fits =
+      row-plain g w d block (and_parts (nat_le 1 n && nat_le n 256) (are_statements g w d block) fits).1
+  everywhere-plain g w d s fits = fits
+
+  row-plain : {n : Count} (g : Config) (w : Where) (d : ℕ) (ss : Row_of-Stmt n) → IsTrue (are_statements g w d ss)
+      → IsTrue (everywhere_row (is_plain g w) ss)
+  row-plain g w d end_of-Stmt fits = refl
+  row-plain g w d (more_of-Stmt s ss) fits =
+      let b = and_parts (is_statement g w d s) (are_statements g w d ss) fits in
+      and_from (everywhere (is_plain g w) s) (everywhere_row (is_plain g w) ss) (everywhere-plain g w d s b.0) (row-plain g w d ss b.1)
+
+pub all-plain : (g : Config) (w : Where) (d : ℕ) (ss : List Stmt) → IsTrue (list_all (is_statement g w d) ss) → IsTrue (everywhere_in (is_plain g w) ss)
+all-plain g w d [] fits = refl
+all-plain g w d (s ∷ ss) fits =
+    let b = and_parts (is_statement g w d s) (list_all (is_statement g w d) ss) fits in
+    and_from (everywhere (is_plain g w) s) (everywhere_in (is_plain g w) ss) (everywhere-plain g w d s b.0) (all-plain g w d ss b.1)
+
+-- what an ask names is declared
+
+-- a number below the length of a list is below that of its images
+mapped-below : {X Y : Type 0} (n : ℕ) (f : X → Y) (xs : List X) → IsTrue (nat_lt n (length xs)) → IsTrue (nat_lt n (length (map f xs)))
+mapped-below n f xs h = subst (λ m. IsTrue (nat_lt n m)) (sym (length-map xs f)) h
+
+queue-declared : (g : Config) (q : QueueId) → IsTrue (is_queue_number g q) → IsTrue (is_queue (declarations_of g) q.0)
+queue-declared g q h = mapped-below q.0 queue_shape g.queues h
+
+each-note : (g : Config) (v : Env) (ns : List (Expr × QueueId)) → IsTrue (list_all (is_note g) ns)
+    → IsTrue (list_all (λ n. is_queue (declarations_of g) n.queue.0) (notes_in ns v))
+each-note g v [] h = refl
+each-note g v (n ∷ ns) h =
+    let a = and_parts (is_note g n) (list_all (is_note g) ns) h in
+    let b = and_parts (is_expression n.0) (is_queue_number g n.1) a.0 in
+    and_from (is_queue (declarations_of g) n.1.0) (list_all (λ m. is_queue (declarations_of g) m.queue.0) (notes_in ns v))
+    (queue-declared g n.1 b.1) (each-note g v ns a.1)
+
+notes-declared : (g : Config) (v : Env) (ns : List (Expr × QueueId)) → IsTrue (are_note_expressions g ns)
+    → IsTrue (are_notes (declarations_of g) (notes_in ns v))
+notes-declared g v ns h =
+    let a = and_parts (nat_le (length ns) 8) (list_all (is_note g) ns) h in
+    and_from (nat_le (length (notes_in ns v)) 8) (list_all (λ m. is_queue (declarations_of g) m.queue.0) (notes_in ns v))
+    (subst (λ m. IsTrue (nat_le m 8)) (sym (length-notes ns v)) a.0) (each-note g v ns a.1)
+
+length-values : (es : List Expr) (v : Env) → length (values es v) ≡ length es
+length-values [] v = refl
+length-values (e ∷ es) v = ap suc (length-values es v)
+
+-- the cells of an environment, where there are some, are eight
+abbrev pub AreEight : Option (List ℕ) → Type 0
+AreEight None = Unit {0}
+AreEight (Some cells) = length cells ≡ 8
+
+cells-declared : (cells : Option (List ℕ)) → AreEight cells → IsTrue (are_cells (zeros_or cells))
+cells-declared None eight = refl
+cells-declared (Some cells) eight = subst (λ n. IsTrue (nat_eq n 8)) (sym eight) refl
+
+pub ask-declared : (g : Config) (w : Where) (s : Stmt) (v : Env) → IsTrue (is_plain g w s) → IsTrue (does_ask s v) → AreEight v.cells
+    → IsTrue (is_declared (declarations_of g) (ask_of s v))
+ask-declared g w (Stmt.Set i e) v fits does eight = absurd (cc does)
+ask-declared g w (Stmt.If' t _ first _ second b) v fits does eight = absurd (cc does)
+ask-declared g w (Stmt.Repeat' n _ block) v fits does eight = absurd (cc does)
+ask-declared g w (Stmt.Alloc i p e es) v fits does eight =
+    let a = and_parts (is_variable i && nat_lt p.0 (length g.pools) && is_expression e && nat_le (length es) 16) (are_expressions es) fits in
+    let b = and_parts (is_variable i && nat_lt p.0 (length g.pools) && is_expression e) (nat_le (length es) 16) a.0 in
+    let c = and_parts (is_variable i && nat_lt p.0 (length g.pools)) (is_expression e) b.0 in
+    let pool = mapped-below p.0 pool_shape g.pools (and_parts (is_variable i) (nat_lt p.0 (length g.pools)) c.0).1 in
+    let kind : IsTrue (nat_lt (value e v % 2 ^ 32) (2 ^ 32)) = lt-ltb (value e v % 2 ^ 32) (2 ^ 32) (mod_below (value e v) (2 ^ 32) (omega arith)) in
+    let words : IsTrue (nat_le (length (values es v)) 16) = subst (λ m. IsTrue (nat_le m 16)) (sym (length-values es v)) b.1 in
+    and_from (nat_lt p.0 (length (map pool_shape g.pools)) && nat_lt (value e v % 2 ^ 32) (2 ^ 32)) (nat_le (length (values es v)) 16)
+    (and_from (nat_lt p.0 (length (map pool_shape g.pools))) (nat_lt (value e v % 2 ^ 32) (2 ^ 32)) pool kind) words
+ask-declared g w (Stmt.Send e q) v fits does eight =
+    and_from (is_queue (declarations_of g) q.0) true (queue-declared g q (and_parts (is_expression e) (is_queue_number g q) fits).1) refl
+ask-declared g w (Stmt.SendG e q n) v fits does eight =
+    let a = and_parts (is_expression e && is_queue_number g q) (nat_lt n.0 (length g.egroups)) fits in
+    and_from (is_queue (declarations_of g) q.0) (nat_lt n.0 (length g.egroups))
+    (queue-declared g q (and_parts (is_expression e) (is_queue_number g q) a.0).1) a.1
+ask-declared g w (Stmt.Dequeue i q) v fits does eight = queue-declared g q (and_parts (is_variable i) (is_queue_number g q) fits).1
+ask-declared g w (Stmt.Enable q) v fits does eight = queue-declared g q fits
+ask-declared g w (Stmt.Disable q) v fits does eight = queue-declared g q fits
+ask-declared g w Stmt.EndAtomic v fits does eight = cells-declared v.cells eight
+ask-declared g w (Stmt.Apply n e ns) v fits does eight =
+    let a = and_parts (nat_lt n.0 (length g.egroups) && is_expression e) (are_note_expressions g ns) fits in
+    and_from (nat_lt n.0 (length g.egroups)) (are_notes (declarations_of g) (notes_in ns v))
+    (and_parts (nat_lt n.0 (length g.egroups)) (is_expression e) a.0).0 (notes-declared g v ns a.1)
+ask-declared g w (Stmt.Abort n) v fits does eight = fits
+ask-declared g w (Stmt.Start x ns) v fits does eight =
+    let a = and_parts (may_begin w && nat_lt x.0 (length g.eos)) (are_note_expressions g ns) fits in
+    and_from (nat_lt x.0 (length (map eo_shape g.eos))) (are_notes (declarations_of g) (notes_in ns v))
+    (mapped-below x.0 eo_shape g.eos (and_parts (may_begin w) (nat_lt x.0 (length g.eos)) a.0).1) (notes-declared g v ns a.1)
+ask-declared g w (Stmt.Stop x ns) v fits does eight =
+    let a = and_parts (may_begin w && nat_lt x.0 (length g.eos)) (are_note_expressions g ns) fits in
+    and_from (nat_lt x.0 (length (map eo_shape g.eos))) (are_notes (declarations_of g) (notes_in ns v))
+    (mapped-below x.0 eo_shape g.eos (and_parts (may_begin w) (nat_lt x.0 (length g.eos)) a.0).1) (notes-declared g v ns a.1)
+ask-declared g w (Stmt.Modify n e ns) v fits does eight =
+    let a = and_parts (may_begin w && is_group_number g n && is_expression e) (are_note_expressions g ns) fits in
+    let b = and_parts (may_begin w && is_group_number g n) (is_expression e) a.0 in
+    let c = (and_parts (may_begin w) (is_group_number g n) b.0).1 in
+    and_from (nat_le n.0 (length (map group_shape g.groups))) (are_notes (declarations_of g) (notes_in ns v))
+    (subst (λ m. IsTrue (nat_le n.0 m)) (sym (length-map g.groups group_shape)) c) (notes-declared g v ns a.1)
+ask-declared g w s v fits does eight = refl
+
+-- where an ask may stand
+
+of-object-placed : (c : Context) → IsTrue (is_of_object (place_of c)) → IsTrue (not (is_boot (Some (entry_of c))))
+of-object-placed Context.Boot h = absurd (cc h)
+of-object-placed (Context.Receive r) h = refl
+of-object-placed (Context.GlobalStart op x) h = refl
+of-object-placed (Context.LocalStart op x) h = refl
+of-object-placed (Context.LocalStop op x) h = refl
+of-object-placed (Context.GlobalStop op x) h = refl
+
+begin-placed : (c : Context) → IsTrue (may_begin (place_of c)) → IsTrue (is_boot_or_receive (Some (entry_of c)))
+begin-placed Context.Boot h = refl
+begin-placed (Context.Receive r) h = refl
+begin-placed (Context.GlobalStart op x) h = absurd (cc h)
+begin-placed (Context.LocalStart op x) h = absurd (cc h)
+begin-placed (Context.LocalStop op x) h = absurd (cc h)
+begin-placed (Context.GlobalStop op x) h = absurd (cc h)
+
+fail-placed : (c : Context) → IsTrue (may_fail (place_of c)) → IsTrue (is_global_start (Some (entry_of c)))
+fail-placed Context.Boot h = absurd (cc h)
+fail-placed (Context.Receive r) h = absurd (cc h)
+fail-placed (Context.GlobalStart op x) h = refl
+fail-placed (Context.LocalStart op x) h = absurd (cc h)
+fail-placed (Context.LocalStop op x) h = absurd (cc h)
+fail-placed (Context.GlobalStop op x) h = absurd (cc h)
+
+-- where the environment has no cells, no atomic context is held
+none-held : (cells : Option (List ℕ)) (atomic : Option ℕ) → IsTrue (is_none cells) → (cells ≡ None → atomic ≡ None) → IsTrue (is_none atomic)
+none-held None atomic none held = ap is_none (held refl)
+none-held (Some cells) atomic none held = absurd (cc none)
+
+pub ask-placed : (g : Config) (c : Context) (s : Stmt) (v : Env) → IsTrue (is_plain g (place_of c) s) → IsTrue (does_ask s v)
+    → (atomic : Option ℕ) → (v.cells ≡ None → atomic ≡ None) → IsTrue (is_placed (Some (entry_of c)) atomic (ask_of s v))
+ask-placed g c (Stmt.Set i e) v fits does atomic held = absurd (cc does)
+ask-placed g c (Stmt.If' t _ first _ second b) v fits does atomic held = absurd (cc does)
+ask-placed g c (Stmt.Repeat' n _ block) v fits does atomic held = absurd (cc does)
+ask-placed g c (Stmt.CellWrite i e) v fits does atomic held = none-held v.cells atomic does held
+ask-placed g c (Stmt.Keep e) v fits does atomic held =
+    of-object-placed c (and_parts (is_of_object (place_of c)) (is_expression e) fits).0
+ask-placed g c (Stmt.Claim i) v fits does atomic held = of-object-placed c (and_parts (is_of_object (place_of c)) (is_variable i) fits).0
+ask-placed g c (Stmt.Start x ns) v fits does atomic held =
+    let a = and_parts (may_begin (place_of c) && nat_lt x.0 (length g.eos)) (are_note_expressions g ns) fits in
+    begin-placed c (and_parts (may_begin (place_of c)) (nat_lt x.0 (length g.eos)) a.0).0
+ask-placed g c (Stmt.Stop x ns) v fits does atomic held =
+    let a = and_parts (may_begin (place_of c) && nat_lt x.0 (length g.eos)) (are_note_expressions g ns) fits in
+    begin-placed c (and_parts (may_begin (place_of c)) (nat_lt x.0 (length g.eos)) a.0).0
+ask-placed g c (Stmt.Modify n e ns) v fits does atomic held =
+    let a = and_parts (may_begin (place_of c) && is_group_number g n && is_expression e) (are_note_expressions g ns) fits in
+    let b = and_parts (may_begin (place_of c) && is_group_number g n) (is_expression e) a.0 in
+    begin-placed c (and_parts (may_begin (place_of c)) (is_group_number g n) b.0).0
+ask-placed g c Stmt.Fail v fits does atomic held = fail-placed c fits
+ask-placed g c s v fits does atomic held = refl

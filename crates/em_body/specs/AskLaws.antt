@@ -1,0 +1,45 @@
+-- What is known of each ask of a body: the statement that it is of, and that it may stand in its context.
+use Rattle.std.specs.Prelude.{ℕ, ◌≡◌, Bool, true, List, Option, Some, None, IsTrue}
+use Rattle.std.specs.Option.{option_map_or}
+use Rattle.em_log.specs.declared.ask.Ask.{Ask}
+use Rattle.em_log.specs.declared.ask.Context.{Context}
+use Rattle.em_log.specs.declared.body.Stmt.{Stmt}
+use Rattle.em_log.specs.declared.graph.Config.{Config}
+use Rattle.em_log.specs.Bodies.{ask_of}
+use Rattle.em_log.specs.Declarations.{declarations_of}
+use Rattle.em_log.specs.Expressions.{Env}
+use Rattle.em_log.specs.Lawful.{are_cells, is_declared, is_placed}
+use Rattle.em_log.specs.WellFormed.{IsWellFormed}
+use Rattle.em_log.specs.Works.{Exchange}
+use Rattle.em_body.specs.Everywhere.{everywhere_in}
+use Rattle.em_body.specs.Followed.{IsReached}
+use Rattle.em_body.specs.Standings.{Made, Standing, unanswered, body_of, entry_of, does_ask}
+
+-- the ask is that of a statement which passes this test, and asks in this environment
+pub record IsAskOf (p : Stmt → Bool) (a : Ask) (v : Env) : Type 0 where
+  pub statement : Stmt
+  pub passes : IsTrue (p statement)
+  pub asks : IsTrue (does_ask statement v)
+  pub is : a ≡ ask_of statement v
+
+-- each ask is that of a statement of the context's body, in the environment of its state: what is true of all statements
+-- of the body is true of this one
+abbrev pub AsksAreOfStatements : Type 0
+AsksAreOfStatements = (p : Stmt → Bool) (f : Made) (c : Context) (es : List Exchange) (s : Standing) → IsReached f c es s
+    → IsTrue (everywhere_in p (body_of f.graph c)) → (a : Ask) → unanswered s ≡ Some a → IsAskOf p a s.env
+
+-- the cells that a receive brings are eight
+abbrev pub HasEightCells : Context → Type 0
+HasEightCells (Context.Receive r) = IsTrue (option_map_or are_cells r.cells true)
+HasEightCells c = Unit {0}
+
+-- what the ask names is declared, and the ask may stand in the context, which holds an atomic context only where the
+-- environment has cells
+pub record MayStand (g : Config) (c : Context) (v : Env) (a : Ask) : Type 0 where
+  pub declared : IsTrue (is_declared (declarations_of g) a)
+  pub placed : (atomic : Option ℕ) → (v.cells ≡ None → atomic ≡ None) → IsTrue (is_placed (Some (entry_of c)) atomic a)
+
+-- in a well-formed graph each ask may stand in its context
+abbrev pub AsksMayStand : Type 0
+AsksMayStand = (f : Made) → IsWellFormed f.graph → (c : Context) → HasEightCells c → (es : List Exchange) (s : Standing)
+    → IsReached f c es s → (a : Ask) → unanswered s ≡ Some a → MayStand f.graph c s.env a
