@@ -1,4 +1,3 @@
-pub mod Everywhere
 pub mod Environments
 pub mod Standings
 pub mod Frames
