@@ -1,5 +1,5 @@
 -- Each ask of a context of a well-formed graph may stand in it.
-use Rattle.std.proofs.Common.{◌≡◌, ℕ, List, Option, Some, None, IsTrue, sym, subst}
+use Rattle.std.proofs.Common.{◌≡◌, List, Some, IsTrue, sym, subst}
 use Rattle.em_log.specs.declared.ask.Ask.{Ask}
 use Rattle.em_log.specs.declared.ask.Context.{Context}
 use Rattle.em_log.specs.Declarations.{declarations_of}
@@ -22,7 +22,7 @@ asks-stand f well c eight es s reached a some =
     let cells = reached-eight f c es s eight reached in
     record {
       declared = subst (λ b. IsTrue (is_declared (declarations_of f.graph) b)) (sym by.is)
-        (ask-declared f.graph (place_of c) by.statement s.env by.passes by.asks cells);
+          (ask-declared f.graph (place_of c) by.statement s.env by.passes by.asks cells);
       placed = λ atomic held. subst (λ b. IsTrue (is_placed (Some (entry_of c)) atomic b)) (sym by.is)
-        (ask-placed f.graph c by.statement s.env by.passes by.asks atomic held);
+          (ask-placed f.graph c by.statement s.env by.passes by.asks atomic held);
     }

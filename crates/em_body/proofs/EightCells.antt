@@ -1,5 +1,5 @@
 -- The cells of an environment stay eight.
-use Rattle.std.proofs.Common.{◌≡◌, ℕ, ◌%◌, length, List, Option, Some, None, IsTrue, true, refl, sym, ap, ◌∙◌, subst, slice_set}
+use Rattle.std.proofs.Common.{◌≡◌, ℕ, ◌%◌, length, List, Option, Some, None, IsTrue, true, refl, sym, ap, ◌∙◌, subst}
 use Rattle.std.proofs.lemmas.Bool.{eqb-true}
 use Rattle.std.proofs.lemmas.List.{length-set}
 use Rattle.std.specs.Option.{option_map, option_map_or}

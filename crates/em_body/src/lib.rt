@@ -40,13 +40,14 @@ pub fn leads_are_read()
     ensures { LeadsAreRead }
 {}
 
-/// In each state that a context reaches, the unanswered ask is that of a statement of the context's body, which asks in
-/// the environment of that state.
+/// In each state that a context reaches, an unanswered ask is that of a statement of the context's body, which asks in
+/// the environment of that state: a test that all statements of the body pass is passed by this one.
 pub fn asks_are_of_statements()
     ensures { AsksAreOfStatements }
 {}
 
-/// In a well-formed graph each ask of a context may stand in it, and all that the ask names is declared.
+/// In a well-formed graph each ask of a context may stand in it, and all that the ask names is declared, where the cells
+/// that the context brings, if any, are eight.
 pub fn asks_may_stand()
     ensures { AsksMayStand }
 {}
