@@ -1,5 +1,5 @@
 -- A context that a take has opened: its reading begins, and the core's list has the entries of the take.
-use Rattle.std.proofs.Common.{◌≡◌, ℕ, suc, ◌==◌, Bool, true, false, List, [], ◌∷◌, length, map, take, drop, Option, Some, None, refl, sym, ◌∙◌, ap, subst, arith, slice_get, if◌then◌else◌}
+use Rattle.std.proofs.Common.{◌≡◌, ℕ, suc, List, [], ◌∷◌, length, map, take, drop, Option, Some, None, refl, sym, ◌∙◌, ap, subst, arith, slice_get}
 use Rattle.std.specs.Prelude.{IsTrue}
 use Rattle.std.specs.Option.{option_map, option_and_then}
 use Rattle.em_log.specs.declared.ask.Context.{Context}
@@ -20,13 +20,13 @@ use Rattle.em_log.specs.Declarations.{declarations_of, object_of}
 use Rattle.em_log.specs.Eligible.{is_choice, take_size, ticket_drawn}
 use Rattle.em_log.specs.History.{Past, entry_by, entries_by, onto}
 use Rattle.em_log.specs.Leads.{item_again}
-use Rattle.em_log.specs.Legal.{Lead, leads, whats, body_in, body_of, declared_object, opening, plain_env, AreLeads, EndedFollow}
+use Rattle.em_log.specs.Legal.{leads, whats, body_in, body_of, declared_object, opening, plain_env, AreLeads, EndedFollow}
 use Rattle.em_log.specs.Order.{Ticket, open_ticket}
 use Rattle.em_log.specs.Places.{taken, waiting}
 use Rattle.em_log.specs.Tails.{first_start}
-use Rattle.em_log.proofs.Choices.{IsReady, choice-ready}
+use Rattle.em_log.proofs.Choices.{choice-ready}
 use Rattle.em_core.specs.Pieces.{Piece, HasNoRest, history}
-use Rattle.em_core.proofs.Histories.{own, entry-context}
+use Rattle.em_core.proofs.Histories.{own}
 use Rattle.em_body.specs.Standings as work
 use Rattle.em_desk.specs.Simple.{IsSimple}
 use Rattle.em_desk.proofs.Graphs.{QueueAt, Absent, Present, queue-at}
