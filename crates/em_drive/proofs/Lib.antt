@@ -1,0 +1,3 @@
+pub mod Closed
+pub mod Opening
+pub mod Single
