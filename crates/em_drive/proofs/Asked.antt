@@ -1,5 +1,5 @@
 -- What holds after an ask in the midst of a context.
-use Rattle.std.proofs.Common.{◌≡◌, ℕ, ◌+◌, ◌≤◌, Bool, true, false, List, [], ◌∷◌, ◌++◌, length, map, reverse, Option, Some, None, refl, sym, ap, ◌∙◌, subst, arith}
+use Rattle.std.proofs.Common.{◌≡◌, ℕ, ◌+◌, ◌≤◌, false, List, [], ◌∷◌, ◌++◌, reverse, Option, Some, None, refl, sym, ap, ◌∙◌, subst, arith}
 use Rattle.std.specs.Prelude.{IsTrue}
 use Rattle.std.specs.List.{sum_by}
 use Rattle.std.proofs.lemmas.List.{map-append, reverse-append}
@@ -13,7 +13,6 @@ use Rattle.em_log.specs.declared.entry.Body.{Body}
 use Rattle.em_log.specs.declared.entry.Entry.{Entry}
 use Rattle.em_log.specs.declared.entry.What.{What}
 use Rattle.em_log.specs.declared.fault.Fault.{Fault}
-use Rattle.em_log.specs.declared.ids.EoId.{EoId}
 use Rattle.em_log.specs.Allowance.{cost_of_ask, cost_of_lead}
 use Rattle.em_log.specs.Answers.{answer_of, block}
 use Rattle.em_log.specs.Bodies.{Pair}
@@ -23,7 +22,7 @@ use Rattle.em_log.specs.Declarations.{declarations_of}
 use Rattle.em_log.specs.Expressions.{Env}
 use Rattle.em_log.specs.History.{Past, entry_by, entries_by, onto}
 use Rattle.em_log.specs.Lawful.{due, due_after, is_boot_or_receive}
-use Rattle.em_log.specs.Leads.{lead, own, refusal, refused_or, call_of, scope}
+use Rattle.em_log.specs.Leads.{lead, own, refusal, refused_or, call_of}
 use Rattle.em_log.specs.Legal.{Lead, lead_here, leads_after, leads, whats, AreLeads, body_of, opening, opening_after, EndFollows, EndedFollow}
 use Rattle.em_log.specs.Tails.{tail, tail_of}
 use Rattle.em_log.specs.Works.{Exchange, is_end}
@@ -32,7 +31,7 @@ use Rattle.em_core.specs.Steps.{GrowsByAsk}
 use Rattle.em_core.proofs.Histories as histories
 use Rattle.em_core.proofs.Leads.{lead-shows}
 use Rattle.em_core.proofs.Parts.{lead-grows}
-use Rattle.em_body.specs.Followed.{AreRead, pairs_of}
+use Rattle.em_body.specs.Followed.{pairs_of}
 use Rattle.em_body.proofs.LeadsRead.{lead-read}
 use Rattle.em_drive.specs.Readings.{IsReading}
 
@@ -74,7 +73,7 @@ pub lead-keeps : (k : Declarations) (past : Past) (c : ℕ) (a : Ask) → is_end
 lead-keeps k past c a mid =
     (lead-shows c a (answer_of (lead k past c a)) (lead k past c a) mid (record { shapes = k; past = past; is = refl; answer = refl })).context
 
-keeps-context : (c : ℕ) (ws : List What) (past : Past) → AllKeep ws → log.context (onto (entries_by c ws) past) c ≡ log.context past c
+pub keeps-context : (c : ℕ) (ws : List What) (past : Past) → AllKeep ws → log.context (onto (entries_by c ws) past) c ≡ log.context past c
 keeps-context c [] past all = refl
 keeps-context c (w ∷ ws) past all =
     keeps-context c ws (entry_by c w ∷ past) all.1 ∙ histories.entry-context c w past ∙ all.0 (log.context past c)
