@@ -1,0 +1,159 @@
+-- What holds after the end of a context.
+use Rattle.std.proofs.Common.{◌≡◌, ◌≢◌, ℕ, zero, suc, Bool, List, [], ◌∷◌, length, Option, Some, None, refl, sym, ap, ◌∙◌, subst}
+use Rattle.std.specs.Prelude.{IsTrue, is_none, slice_get}
+use Rattle.std.specs.List.{list_all}
+use Rattle.std.specs.Option.{option_map, option_or, option_and_then}
+use Rattle.std.proofs.lemmas.Bool.{and_parts}
+use Rattle.em_log.specs.declared.body.Stmt.{Stmt}
+use Rattle.em_log.specs.declared.graph.Config.{Config}
+use Rattle.em_log.specs.declared.graph.EoDecl.{EoDecl}
+use Rattle.em_log.specs.declared.ask.Ask.{Ask}
+use Rattle.em_log.specs.declared.ask.Context.{Context}
+use Rattle.em_log.specs.declared.entry.What.{What}
+use Rattle.em_log.specs.declared.ids.Cells.{Cells}
+use Rattle.em_log.specs.declared.work.Move.{Move}
+use Rattle.em_log.specs.Answers.{block}
+use Rattle.em_log.specs.Bodies.{Reading}
+use Rattle.em_log.specs.Contexts as log
+use Rattle.em_log.specs.Declarations.{declarations_of}
+use Rattle.em_log.specs.Handles.{held}
+use Rattle.em_log.specs.History.{Past, entry_by}
+use Rattle.em_log.specs.Leads.{lead}
+use Rattle.em_log.specs.Legal.{leads, AreLeads, error_body_of, reading, cells_in, FollowsSoFar, FollowsToEnd, EndedFollow}
+use Rattle.em_log.specs.Tails.{tail_of}
+use Rattle.em_log.specs.Works.{Exchange}
+use Rattle.em_core.specs.Stands.{IsAt, IsOver}
+use Rattle.em_core.proofs.Histories as histories
+use Rattle.em_body.specs.contracts.run.BodyRunWork.TheImpl.{ghosts}
+use Rattle.em_body.specs.Standings as work
+use Rattle.em_body.specs.Standings.{Made, Standing, Does, Sets, Branches, Repeats, Writes, Asks, Moves, Ends, Goes}
+use Rattle.em_body.specs.Followed.{IsFollowed}
+use Rattle.em_body.specs.Followed as body
+use Rattle.em_body.proofs.Reaching.{followed}
+use Rattle.em_drive.specs.Readings.{IsReading}
+use Rattle.em_drive.proofs.Asked.{follows-tail, keeps-context, keeps-ended, tail-keeps}
+
+-- no error body
+
+-- the object has no error body of its own
+abbrev pub has_no_error : EoDecl → Bool
+has_no_error d = is_none d.error
+
+none-is : {A : Type 0} (o : Option A) → IsTrue (is_none o) → o ≡ None
+none-is None is = refl
+none-is (Some x) is = absurd cc
+
+got-no_error : (ds : List EoDecl) (n : ℕ) → IsTrue (list_all has_no_error ds)
+    → option_and_then (λ (d : EoDecl). d.error) (slice_get ds n) ≡ None
+got-no_error [] n all = refl
+got-no_error (d ∷ ds) zero all = none-is d.error (and_parts (has_no_error d) (list_all has_no_error ds) all).0
+got-no_error (d ∷ ds) (suc n) all = got-no_error ds n (and_parts (has_no_error d) (list_all has_no_error ds) all).1
+
+object-no_error : (ds : List EoDecl) (o : Option ℕ) → IsTrue (list_all has_no_error ds)
+    → option_and_then (λ (d : EoDecl). d.error) (option_and_then (slice_get ds) o) ≡ None
+object-no_error ds None all = refl
+object-no_error ds (Some n) all = got-no_error ds n all
+
+-- where neither the graph nor an object of it has an error body, none serves a fault
+pub no_error-body : (g : Config) (past : Past) (c : ℕ) → g.error ≡ None → IsTrue (list_all (λ d. is_none d.error) g.eos)
+    → error_body_of g past c ≡ None
+no_error-body g past c none all =
+    ap (λ o. option_or o g.error) (object-no_error g.eos (log.context_object (declarations_of g) past c) all) ∙ none
+
+-- followed
+
+-- the history's reading of the body is that of the body's own laws
+reading-same : (g : Config) (past : Past) (c : ℕ) (told : Context) (es : List Exchange) (ws : List What)
+    → IsReading g past c told es ws → error_body_of g past c ≡ None
+    → reading g past c ≡ body.reading (record { graph = g; core = c }) told ws
+reading-same g past c told es ws r none =
+    let b = r.body in
+    let f = r.first in
+    let e = r.entries in
+    rw (none, b, f, e) refl
+
+followed-so_far : (g : Config) (past : Past) (c : ℕ) (told : Context) (es : List Exchange) (ws : List What) (s : Standing)
+    → IsReading g past c told es ws → error_body_of g past c ≡ None → IsFollowed (record { graph = g; core = c }) told es ws s
+    → FollowsSoFar g past c
+followed-so_far g past c told es ws s r none f =
+    let k = declarations_of g in
+    let same = reading-same g past c told es ws r none in
+    record {
+      all = ap (λ (x : Reading). x.rest) same ∙ f.rest;
+      leads = subst (λ ps. AreLeads k c ps (leads k past c)) (sym (ap (λ (x : Reading). x.pairs) same ∙ f.pairs)) r.each;
+    }
+
+-- a context has followed its body to each state that it reaches
+pub so_far-follows : (g : Config) (past : Past) (c : ℕ) (told : Context) (es : List Exchange) (ws : List What) (s : Standing)
+    → IsReading g past c told es ws → error_body_of g past c ≡ None
+    → body.IsReached (record { graph = g; core = c }) told es s → FollowsSoFar g past c
+so_far-follows g past c told es ws s r none reached =
+    followed-so_far g past c told es ws s r none (followed (record { graph = g; core = c }) told es s reached ws r.read)
+
+told-same : (x y : Context) → Some x ≡ Some y → x ≡ y
+told-same x y same = cc
+
+pub so-far : (g : Config) (past : Past) (c : ℕ) (told : Context) (es : List Exchange) (ws : List What) (now : Standing) (n : ℕ)
+    → IsReading g past c told es ws → error_body_of g past c ≡ None
+    → IsAt ghosts (record { graph = g; core = c }) (Some told) es now n → FollowsSoFar g past c
+so-far g past c told es ws now n r none at =
+    so_far-follows g past c told es ws now r none
+    (subst (λ x. body.IsReached (record { graph = g; core = c }) x es now) (sym (told-same told at.context at.is_open)) at.reached)
+
+-- the end
+
+does-no_end : (q : Stmt) (was now : Standing) (m : Move) → Does q was m now → m ≢ Move.End
+does-no_end q was now m (Sets i e is same new) ends = cc
+does-no_end q was now m (Branches t first second has_else is same new) ends = cc
+does-no_end q was now m (Repeats n block is same new) ends = cc
+does-no_end q was now m (Writes i e cells is some same new) ends = cc
+does-no_end q was now m (Asks does same new) ends = cc
+
+moves-end : (f : Made) (was now : Standing) (m : Move) → Moves f was m now → m ≡ Move.End
+    → (was.asking ≡ None) × (was.left ≡ []) × (now ≡ was)
+moves-end f was now m (Ends none empty is same) ends = (none, empty, same)
+moves-end f was now m (Goes q none first does) ends = absurd (does-no_end q _ now m does ends)
+
+cells-carried : (o : Option (List ℕ)) → cells_in (option_map (λ cs. record { 0 = cs }) o) ≡ o
+cells-carried None = refl
+cells-carried (Some cs) = refl
+
+-- at its end a context has followed its body to the end
+pub ended-follows : (g : Config) (past : Past) (c : ℕ) (told : Context) (es : List Exchange) (ws : List What) (now : Standing) (cells : Option Cells)
+    → IsReading g past c told es ws → error_body_of g past c ≡ None
+    → IsOver ghosts (record { graph = g; core = c }) (Some told) es now cells → FollowsToEnd g past c cells
+ended-follows g past c told es ws now cells r none over =
+    let f : Made = record { graph = g; core = c } in
+    let was : Standing = over.was in
+    let reached : body.IsReached f told es was =
+    subst (λ x. body.IsReached f x es was) (sym (told-same told over.context over.is_open)) over.reached in
+    let all = followed f told es was reached ws r.read in
+    let at_end = moves-end f was now Move.End over.ends refl in
+    let same = reading-same g past c told es ws r none in
+    record {
+      so_far = followed-so_far g past c told es ws was r none all;
+      over = (
+        was.env,
+        ap (λ (x : Reading). x.env) same ∙ all.over at_end.0 at_end.1,
+        ap cells_in (over.carried ∙ ap work.carried at_end.2) ∙ cells-carried was.env.cells,
+      );
+    }
+
+-- what the end's entry and what follows it leave
+
+pub ended-all : (g : Config) (past : Past) (c : ℕ) (cells : Option Cells) → FollowsToEnd g past c cells → EndedFollow g past
+    → EndedFollow g (block (declarations_of g) past (entry_by c (lead (declarations_of g) past c (Ask.End cells))))
+ended-all g past c cells follows ended =
+    let k = declarations_of g in
+    let w = What.End (length (held past c)) cells in
+    let after = tail_of k past (entry_by c w ∷ past) c w in
+    keeps-ended g c after (entry_by c w ∷ past) (tail-keeps after (follows-tail k past c (Ask.End cells))) (follows, ended)
+
+pub ended-context : (g : Config) (past : Past) (c : ℕ) (cells : Option Cells)
+    → log.context (block (declarations_of g) past (entry_by c (lead (declarations_of g) past c (Ask.End cells)))) c ≡ None
+ended-context g past c cells =
+    let k = declarations_of g in
+    let w = What.End (length (held past c)) cells in
+    let after = tail_of k past (entry_by c w ∷ past) c w in
+    keeps-context c after (entry_by c w ∷ past) (tail-keeps after (follows-tail k past c (Ask.End cells)))
+    ∙ histories.entry-context c w past
