@@ -29,3 +29,4 @@ pub mod Mints
 pub mod Allocs
 pub mod Claims
 pub mod Mapped
+pub mod Histories

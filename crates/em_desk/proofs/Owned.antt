@@ -68,7 +68,7 @@ if-none true x h = absurd cc
 if-none false x h = refl
 
 -- a handle that is minted and not spent is held by the core that minted it
-unspent-held : (steps : List Step) (c w : ℕ) (m : log.Minting) → pool.minting steps w ≡ Some m → m.core ≡ c → pool.spending steps w ≡ None
+pub unspent-held : (steps : List Step) (c w : ℕ) (m : log.Minting) → pool.minting steps w ≡ Some m → m.core ≡ c → pool.spending steps w ≡ None
     → has (held steps c) w ≡ true
 unspent-held [] c w m is core unspent = absurd cc
 unspent-held (Minted d e ∷ steps) c w m is core unspent =
@@ -161,13 +161,13 @@ pub record IsOwned (k : Declarations) (past : Past) (c w : ℕ) : Type 0 where
   pub held : place (pool_steps k past) (index_of w) ≡ Place.Held (record { 0 = c })
 
 -- the parts of the rule
-record IsAllowed (steps : List Step) (c w : ℕ) : Type 0 where
+pub record IsAllowed (steps : List Step) (c w : ℕ) : Type 0 where
   pub minting : log.Minting
   pub is : pool.minting steps w ≡ Some minting
   pub core : minting.core ≡ c
   pub unspent : pool.spending steps w ≡ None
 
-allowed-by : (steps : List Step) (c w : ℕ) → pool.rule steps c w ≡ None → IsAllowed steps c w
+pub allowed-by : (steps : List Step) (c w : ℕ) → pool.rule steps c w ≡ None → IsAllowed steps c w
 allowed-by steps c w ok = by_minting (pool.minting steps w) refl (pool.spending steps w) refl ok
   where
     by_core : (m : log.Minting) (b : Bool) → (m.core == c) ≡ b → log.unspent_fault c m ≡ None → m.core ≡ c

@@ -56,7 +56,7 @@ boot-over k past o (Booting at early) (InBoot is begun) off some = absurd (false
 boot-over k past o (Booting at early) (InReceive q e x is begun object) off some = absurd cc
 boot-over k past o (Running over) opening off some = over
 
-boot-at : (k : Declarations) (past : Past) (o : Opening) → IsOpening k past 0 o → is_boot o ≡ true → context past 0 ≡ Some (What.Enter Body.Boot)
+pub boot-at : (k : Declarations) (past : Past) (o : Opening) → IsOpening k past 0 o → is_boot o ≡ true → context past 0 ≡ Some (What.Enter Body.Boot)
 boot-at k past o (NoContext is none) on = absurd (false≢true (ap is_boot (sym is) ∙ on))
 boot-at k past o (InBoot is at) on = at
 boot-at k past o (InReceive q e x is at object) on = absurd (false≢true (ap is_boot (sym is) ∙ on))

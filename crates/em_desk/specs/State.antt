@@ -1,11 +1,12 @@
 -- What a desk means, and what an ask does to it.
-use Rattle.std.specs.Prelude.{ℕ, ◌≡◌, Bool, None, is_some}
+use Rattle.std.specs.Prelude.{ℕ, ◌≡◌, ◌≢◌, ◌<◌, Bool, [], Some, None, is_some}
 use Rattle.em_log.specs.declared.declarations.Declarations.{Declarations}
 use Rattle.em_log.specs.declared.ids.Limits.{Limits}
 use Rattle.em_log.specs.declared.ask.Ask.{Ask}
 use Rattle.em_log.specs.declared.ask.Reply.{Reply}
 use Rattle.em_log.specs.declared.entry.What.{What}
 use Rattle.em_log.specs.History.{Past, entry_by}
+use Rattle.em_log.specs.Contexts.{context}
 use Rattle.em_log.specs.Operations.{step}
 use Rattle.em_log.specs.Answers.{block, answer_of}
 
@@ -15,6 +16,11 @@ pub record DeskState : Type 0 where
   pub limits : Limits
   pub past : Past
   pub halted : Bool
+
+-- core c has to wait: for boot to begin on core 0, or for some open context to end
+pub data IsWaited (k : Declarations) (past : Past) (c : ℕ) : Type 0 where
+  Unbegun : past ≡ [] → c ≢ 0 → IsWaited k past c
+  Busy : (d : ℕ) (b : What) → d < k.cores → context past d ≡ Some b → IsWaited k past c
 
 -- the asks that the desk answers today
 abbrev pub IsServed : Ask → Type 0

@@ -1,16 +1,19 @@
 //! The desk of a run.
-ghost use Rattle.std.specs.Prelude.{◌≡◌, ◌<◌, ◌≤◌, [], true, false, reverse, None, Some, IfOk, OnErr, IsTrue, is_some};
+ghost use Rattle.std.specs.Prelude.{◌≡◌, ◌+◌, ◌*◌, ◌<◌, ◌≤◌, ℕ, [], true, false, length, reverse, None, Some, IfOk, OnErr, IsTrue, is_some};
 ghost use Rattle.em_log.specs.Declarations.{declarations_of};
 ghost use Rattle.em_log.specs.Contexts.{context};
+ghost use Rattle.em_log.specs.History.{has};
+ghost use Rattle.em_log.specs.Handles.{rule, held};
+ghost use Rattle.em_log.specs.Atomic.{holds};
 ghost use Rattle.em_log.specs.Places.{taken};
 ghost use Rattle.em_log.specs.Operations.{step};
 ghost use Rattle.em_log.specs.Leads.{lead, refusal, call_of, scope as scope_of};
-ghost use Rattle.em_log.specs.Lawful.{Lawful, may_ask};
+ghost use Rattle.em_log.specs.Lawful.{Lawful, may_ask, is_boot_or_receive};
 ghost use Rattle.em_log.specs.Allowance.{cost_of_ask, left};
 ghost use Rattle.em_log.specs.Answers.{Takes, end_of};
 ghost use Rattle.em_log.specs.declared.ask.Ask.{Ask as TheAsk};
 ghost use Rattle.em_desk.specs.Simple.{IsSimple, AreInRange};
-ghost use Rattle.em_desk.specs.State.{DeskState, IsServed, IsSameRun, IsAnswered};
+ghost use Rattle.em_desk.specs.State.{DeskState, IsServed, IsSameRun, IsWaited, IsAnswered};
 
 use crate::entries::{entry, make_room, received, told};
 use crate::lines::Lines;
@@ -93,6 +96,7 @@ impl Desk {
         ensures takes { IfOk result (λ r. Takes self.old.declarations self.old.limits self.old.halted self.old.past core.0 r.answer self.new.past) }
         ensures owed { IfOk result (λ r. r.owed ≡ is_some (step self.old.declarations self.new.past core.0)) }
         ensures run { IsSameRun self.old self.new }
+        ensures idle { IfOk result (λ r. r.answer ≡ Answer.Idle → IsWaited self.old.declarations self.old.past core.0) }
         ensures err { OnErr result (self.new ≡ self.old) }
     {
         make_room(&mut self.log, ROOM)?;
@@ -311,6 +315,20 @@ impl Desk {
         ensures lawful { Lawful self.now.declarations self.now.limits self.now.past }
     {
         self.log.as_slice()
+    }
+
+    /// Does nothing: its clauses say what holds of every history that a desk makes today.
+    pub fn history_is_simple(&self)
+        ensures lawful { Lawful self.now.declarations self.now.limits self.now.past }
+        ensures untaken { (c : ℕ) → taken self.now.declarations self.now.past c ≡ [] }
+        ensures no_step { (c : ℕ) → step self.now.declarations self.now.past c ≡ None }
+        ensures no_hold { (c : ℕ) → holds self.now.declarations self.now.past c ≡ None }
+        ensures boot_or_receive { (c : ℕ) (b : What) → c < self.now.declarations.cores → context self.now.past c ≡ Some b → IsTrue (is_boot_or_receive (Some b)) }
+        ensures held { (c w : ℕ) → c < self.now.declarations.cores → rule self.now.past c w ≡ None → has (held self.now.past c) w ≡ true }
+        ensures closed_held { (c : ℕ) → context self.now.past c ≡ None → held self.now.past c ≡ [] }
+        ensures few { length self.now.past ≤ 260 * (1 + self.now.limits.receives) }
+    {
+        let _ = &self.declarations;
     }
 
     /// How the history has ended, if it has.

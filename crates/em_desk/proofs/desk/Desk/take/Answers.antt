@@ -14,8 +14,11 @@ use Rattle.em_desk.specs.declared.opening.Opening.{Opening}
 use Rattle.em_desk.specs.Plain.{ArePlain}
 use Rattle.em_desk.specs.Parts.{pool_steps}
 use Rattle.em_desk.specs.Openings.{is_closed}
+use Rattle.em_desk.specs.State.{IsWaited}
+use Rattle.em_desk.proofs.Asking.{of_fields}
 use Rattle.em_desk.proofs.Graphs.{no-step}
 use Rattle.em_desk.proofs.Ready.{IsNext, boot-early, no-choice, none-left, none-waits, rests-quiet, rests-limit, takes-choice}
+use Rattle.em_desk.proofs.Histories.{waits-for-boot, waits-or-rests}
 use Rattle.em_desk.proofs.Taking.{after_take, block-next, told-next, take-is, receive_of, plain-next}
 use Rattle.em_desk.proofs.Reserved.{IsReserved, is-reserved, stands-reserved, plain-reserved, none-owed, takes-in, some-entries, not-first, boots-by, is-over, stands-boot, next-now, mintings-now, first-now, given-now, history-now, stands-take}
 use Rattle.em_desk.proofs.desk.Desk.take.Goals as goal
@@ -73,6 +76,13 @@ returns-then-is_booting-clause-owed c =
     none-owed c.args.self.now (reverse c.make_room.new.items.items) c.args.core.0 Answer.Idle c.told-then-is_booting.result
     (plain-reserved c.self.inside c.make_room.new.items c.reserve.new.self c.self.invariant (room-early c)) c.told-then-is_booting.ensures
 
+pub returns-then-is_booting-clause-idle : goal.returns-then-is_booting-clause-idle
+returns-then-is_booting-clause-idle c = λ idle.
+    let d = c.self.inside in
+    let on = boots-by d c.as_slice.result.now c.is_booting.result true c.as_slice.ensures.value c.is_booting.ensures c.if-is_booting.true in
+    of_fields d c.args.self.now c.self.view_is (λ k past. IsWaited k past c.args.core.0)
+    (waits-for-boot d.declarations d.limits (reverse d.log.items) d.pools d.contexts.items d.waiting d.kept d.started c.args.core.0 c.self.invariant.keeps on)
+
 -- nothing waits
 
 room-quiet : (c : goal.After-told-in_default) → IsReserved c.self.inside c.make_room.new.items c.reserve.new.self
@@ -85,6 +95,13 @@ over-quiet c =
     is-over c.self.inside c.make_room.new.items c.as_slice.result.now c.is_booting.result c.self.invariant c.make_room.ensures.items
     (sym c.is_empty.ensures ∙ c.if-is_empty.false) c.as_slice.ensures.value c.is_booting.ensures c.if-is_booting.false
 
+abbrev shown : Answer → List Opening → Answer
+shown ended os = if list_all is_closed os then ended else Answer.Idle
+
+answer-quiet : (c : goal.After-told-in_default) → c.told-in_default.result.answer ≡ shown Answer.Quiet c.self.inside.contexts.items
+answer-quiet c =
+    ap (λ (r : Reply). r.answer) c.told-in_default.ensures ∙ (c.rest.ensures ∙ ap (shown Answer.Quiet) c.as_slice-in_default.ensures.value)
+
 pub invariant_of-self-in_default : goal.invariant_of-self-in_default
 invariant_of-self-in_default c = stands-reserved c.self.inside c.make_room.new.items c.reserve.new.self c.self.invariant (room-quiet c)
 
@@ -94,14 +111,11 @@ returns-in_default-clause-takes c =
     let s = c.self.invariant in
     let past = reverse d.log.items in
     let over = over-quiet c in
-    let shown : List Opening → Answer = λ os. if list_all is_closed os then Answer.Quiet else Answer.Idle in
-    let answer : c.told-in_default.result.answer ≡ shown d.contexts.items =
-    ap (λ (r : Reply). r.answer) c.told-in_default.ensures ∙ (c.rest.ensures ∙ ap shown c.as_slice-in_default.ensures.value) in
     takes-in d c.args.self.now c.args.core.0 c.told-in_default.result.answer (reverse c.make_room.new.items.items) c.self.view_is
     (Rests c.if-self.false over (no-step d.declarations past c.args.core.0 s.keeps.plain)
     (no-choice d.declarations d.limits past c.args.core.0
     (λ q lt. none-waits d.declarations d.limits past d.pools d.contexts.items d.waiting d.kept d.started c.args.core.0 q s.keeps lt (c.in_default.ensures q)))
-    (subst (RestAnswer d.declarations d.limits past) (sym answer)
+    (subst (RestAnswer d.declarations d.limits past) (sym (answer-quiet c))
     (rests-quiet d.declarations d.limits past d.pools d.contexts.items d.waiting d.kept d.started s.keeps over c.in_default.ensures))
     (ap reverse c.make_room.ensures.items))
 
@@ -109,6 +123,13 @@ pub returns-in_default-clause-owed : goal.returns-in_default-clause-owed
 returns-in_default-clause-owed c =
     none-owed c.args.self.now (reverse c.make_room.new.items.items) c.args.core.0 c.rest.result c.told-in_default.result
     (plain-reserved c.self.inside c.make_room.new.items c.reserve.new.self c.self.invariant (room-quiet c)) c.told-in_default.ensures
+
+pub returns-in_default-clause-idle : goal.returns-in_default-clause-idle
+returns-in_default-clause-idle c = λ idle.
+    let d = c.self.inside in
+    of_fields d c.args.self.now c.self.view_is (λ k past. IsWaited k past c.args.core.0)
+    (waits-or-rests d.declarations d.limits (reverse d.log.items) d.pools d.contexts.items d.waiting d.kept d.started c.args.core.0 Answer.Quiet
+    c.self.invariant.keeps (λ is. cc) (sym (answer-quiet c) ∙ idle))
 
 -- no receive is left
 
@@ -127,6 +148,11 @@ next-limit c =
     let found = c.in-Some.ensures in
     next-now c.self.inside c.args.self.now c.args.core.0 c.in-Some.number c.self.invariant c.self.view_is c.requires.core c.requires.closed (over-limit c) found.0 found.1.0
 
+answer-limit : (c : goal.After-told-then-self-2) → c.told-then-self-2.result.answer ≡ shown Answer.Limit c.self.inside.contexts.items
+answer-limit c =
+    ap (λ (r : Reply). r.answer) c.told-then-self-2.ensures
+    ∙ (c.rest-then-self-2.ensures ∙ ap (shown Answer.Limit) c.as_slice-then-self-2.ensures.value)
+
 pub invariant_of-self-then-self-2 : goal.invariant_of-self-then-self-2
 invariant_of-self-then-self-2 c = stands-reserved c.self.inside c.make_room.new.items c.reserve.new.self c.self.invariant (room-limit c)
 
@@ -135,13 +161,10 @@ returns-then-self-2-clause-takes c =
     let d = c.self.inside in
     let s = c.self.invariant in
     let past = reverse d.log.items in
-    let shown : List Opening → Answer = λ os. if list_all is_closed os then Answer.Limit else Answer.Idle in
-    let answer : c.told-then-self-2.result.answer ≡ shown d.contexts.items =
-    ap (λ (r : Reply). r.answer) c.told-then-self-2.ensures ∙ (c.rest-then-self-2.ensures ∙ ap shown c.as_slice-then-self-2.ensures.value) in
     takes-in d c.args.self.now c.args.core.0 c.told-then-self-2.result.answer (reverse c.make_room.new.items.items) c.self.view_is
     (Rests c.if-self.false (over-limit c) (no-step d.declarations past c.args.core.0 s.keeps.plain)
     (none-left d.declarations d.limits past d.pools d.contexts.items d.waiting d.kept d.started c.args.core.0 s.keeps c.if-self-2.true)
-    (subst (RestAnswer d.declarations d.limits past) (sym answer)
+    (subst (RestAnswer d.declarations d.limits past) (sym (answer-limit c))
     (rests-limit d.declarations d.limits past d.pools d.contexts.items d.waiting d.kept d.started c.args.core.0 c.in-Some.number s.keeps c.if-self-2.true (next-limit c).may))
     (ap reverse c.make_room.ensures.items))
 
@@ -149,6 +172,13 @@ pub returns-then-self-2-clause-owed : goal.returns-then-self-2-clause-owed
 returns-then-self-2-clause-owed c =
     none-owed c.args.self.now (reverse c.make_room.new.items.items) c.args.core.0 c.rest-then-self-2.result c.told-then-self-2.result
     (plain-reserved c.self.inside c.make_room.new.items c.reserve.new.self c.self.invariant (room-limit c)) c.told-then-self-2.ensures
+
+pub returns-then-self-2-clause-idle : goal.returns-then-self-2-clause-idle
+returns-then-self-2-clause-idle c = λ idle.
+    let d = c.self.inside in
+    of_fields d c.args.self.now c.self.view_is (λ k past. IsWaited k past c.args.core.0)
+    (waits-or-rests d.declarations d.limits (reverse d.log.items) d.pools d.contexts.items d.waiting d.kept d.started c.args.core.0 Answer.Limit
+    c.self.invariant.keeps (λ is. cc) (sym (answer-limit c) ∙ idle))
 
 -- a take
 
