@@ -15,7 +15,7 @@ pub mod SilentMoves
 pub mod LeadsRead
 pub mod AsksOfStatements
 pub mod PlainStatements
-pub mod EightCells
+pub mod KeptCells
 pub mod AsksStand
 pub mod StepsLeft
 pub mod ExampleGraph

@@ -13,7 +13,7 @@ use Rattle.em_log.specs.WellFormed.{IsWellFormed}
 use Rattle.em_log.specs.Works.{Exchange}
 use Rattle.em_body.specs.Everywhere.{everywhere_in}
 use Rattle.em_body.specs.Followed.{IsReached}
-use Rattle.em_body.specs.Standings.{Made, Standing, unanswered, body_of, entry_of, does_ask}
+use Rattle.em_body.specs.Standings.{Made, Standing, unanswered, body_of, entry_of, does_ask, opening}
 
 -- the ask is that of a statement which passes this test, and asks in this environment
 pub record IsAskOf (p : Stmt → Bool) (a : Ask) (v : Env) : Type 0 where
@@ -43,3 +43,8 @@ pub record MayStand (g : Config) (c : Context) (v : Env) (a : Ask) : Type 0 wher
 abbrev pub AsksMayStand : Type 0
 AsksMayStand = (f : Made) → IsWellFormed f.graph → (c : Context) → HasEightCells c → (es : List Exchange) (s : Standing)
     → IsReached f c es s → (a : Ask) → unanswered s ≡ Some a → MayStand f.graph c s.env a
+
+-- cells come with a context, or not at all
+abbrev pub CellsComeWithContexts : Type 0
+CellsComeWithContexts = (f : Made) (c : Context) (es : List Exchange) (s : Standing) → (opening f.core c).cells ≡ None
+    → IsReached f c es s → s.env.cells ≡ None

@@ -7,7 +7,7 @@ pub mod run;
 mod stack;
 mod values;
 
-ghost use Rattle.em_body.specs.AskLaws.{AsksAreOfStatements, AsksMayStand};
+ghost use Rattle.em_body.specs.AskLaws.{AsksAreOfStatements, AsksMayStand, CellsComeWithContexts};
 ghost use Rattle.em_body.specs.Followed.{BodiesAreFollowed, ContextsAreBounded, EndsWhereNothingIsLeft, LeadsAreRead, SilentWhereNothingIsAsked, StepsAreBounded, StepsFall};
 
 pub use run::BodyRun;
@@ -56,4 +56,9 @@ pub fn asks_may_stand()
 pub fn steps_run_out()
     ensures bounded { StepsAreBounded }
     ensures fall { StepsFall }
+{}
+
+/// Where a context comes without cells, its environment has none at any time.
+pub fn cells_come_with_contexts()
+    ensures { CellsComeWithContexts }
 {}

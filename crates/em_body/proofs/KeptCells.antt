@@ -1,0 +1,96 @@
+-- What is true of a context's cells stays true of them.
+use Rattle.std.proofs.Common.{◌≡◌, ℕ, ◌%◌, List, Option, Some, None, IsTrue, true, refl, sym, ap, ◌∙◌, subst}
+use Rattle.std.proofs.lemmas.Bool.{eqb-true}
+use Rattle.std.proofs.lemmas.List.{length-set}
+use Rattle.std.specs.Prelude.{slice_set}
+use Rattle.std.specs.Option.{option_map, option_map_or}
+use Rattle.em_log.specs.declared.ask.Answer.{Answer}
+use Rattle.em_log.specs.declared.ask.Context.{Context}
+use Rattle.em_log.specs.declared.body.Stmt.{Stmt}
+use Rattle.em_log.specs.declared.entry.Event.{Event}
+use Rattle.em_log.specs.declared.ids.Cells.{Cells}
+use Rattle.em_log.specs.declared.work.Move.{Move}
+use Rattle.em_log.specs.Bodies.{set_in, event_env, variable}
+use Rattle.em_log.specs.Expressions.{Env, value}
+use Rattle.em_log.specs.Lawful.{are_cells}
+use Rattle.em_log.specs.Works.{Exchange, Reached}
+use Rattle.em_body.specs.AskLaws.{HasEightCells}
+use Rattle.em_body.specs.Followed.{IsReached}
+use Rattle.em_body.specs.Standings.{Made, Standing, Does, Sets, Branches, Repeats, Writes, Asks, Moves, Ends, Goes, after_first, minted, done, answered, left_by, opening}
+use Rattle.em_body.proofs.PlainStatements.{AreEight}
+
+-- answers
+
+set-cells : (i : Option ℕ) (n : ℕ) (v : Env) → (set_in i n v).cells ≡ v.cells
+set-cells None n v = refl
+set-cells (Some i) n v = refl
+
+event-cells : (i : Option ℕ) (e : Event) (v : Env) → (event_env i (Some e) v).cells ≡ v.cells
+event-cells i e v = set-cells i e.handle.0 (record v { event = record { kind = e.kind; words = e.words } })
+
+minted-cells : (s : Stmt) (e : Event) (v : Env) → (minted s e v).cells ≡ v.cells
+minted-cells (Stmt.Alloc i p a ws) e v = refl
+minted-cells s e v = event-cells (variable s) e v
+
+-- what holds of no cells, and of cells of which one is written
+module _ (P : Option (List ℕ) → Type 0) (none : P None) (write : (cells : List ℕ) (i n : ℕ) → P (Some cells) → P (Some (slice_set cells i n))) where
+  -- moves
+
+  does-kept : (s : Stmt) (was : Standing) (m : Move) (now : Standing) → P was.env.cells → Does s was m now → P now.env.cells
+  does-kept s was m now h (Sets i e is silent new) = subst P (sym (ap (λ t. t.env.cells) new)) h
+  does-kept s was m now h (Branches t first second has_else is silent new) = subst P (sym (ap (λ t. t.env.cells) new)) h
+  does-kept s was m now h (Repeats n block is silent new) = subst P (sym (ap (λ t. t.env.cells) new)) h
+  does-kept s was m now h (Writes c e cells is some silent new) =
+      let had : P (Some cells) = subst P some h in
+      subst P (sym (ap (λ t. t.env.cells) new)) (write cells (value c was.env % 8) (value e was.env) had)
+  does-kept s was m now h (Asks does is new) = subst P (sym (ap (λ t. t.env.cells) new)) h
+
+  moves-kept : (f : Made) (was : Standing) (m : Move) (now : Standing) → P was.env.cells → Moves f was m now → P now.env.cells
+  moves-kept f was m now h (Ends none empty is same) = subst P (sym (ap (λ t. t.env.cells) same)) h
+  moves-kept f was m now h (Goes s none first does) = does-kept s (record was { left = after_first was.left }) m now h does
+
+  done-kept : (s : Stmt) (v : Env) → P v.cells → P (done s v).cells
+  done-kept Stmt.EndAtomic v h = none
+  done-kept s v h = h
+
+  answered-kept : (s : Stmt) (x : Answer) (v : Env) → P v.cells → P (answered s x v).cells
+  answered-kept s (Answer.Refused f) v h = subst P (sym (set-cells (variable s) 0 (record v { ok = 0 }))) h
+  answered-kept s (Answer.Minted e) v h = subst P (sym (minted-cells s e v)) h
+  answered-kept s Answer.Nothing v h = subst P (sym (set-cells (variable s) 0 v)) h
+  answered-kept s Answer.Done v h = done-kept s v h
+  answered-kept s x v h = h
+
+  left-kept : (o : Option Stmt) (x : Answer) (v : Env) → P v.cells → P (left_by o x v).cells
+  left-kept None x v h = h
+  left-kept (Some s) x v h = answered-kept s x v h
+
+  -- each state that a context reaches
+  pub reached-kept : (f : Made) (c : Context) (es : List Exchange) (s : Standing) → P (opening f.core c).cells → IsReached f c es s → P s.env.cells
+  reached-kept f c es s h (Reached.Begun _ _ empty begins) = subst P (sym (ap (λ t. t.env.cells) begins)) h
+  reached-kept f c es s h (Reached.Silent _ was _ before moves) = moves-kept f was Move.Silent s (reached-kept f c es was h before) moves
+  reached-kept f c es s h (Reached.Asked _ was _ a before moves) = moves-kept f was (Move.Ask a) s (reached-kept f c es was h before) moves
+  reached-kept f c es s h (Reached.Answered _ past was _ a x before some fits leaves is) =
+      subst P (sym (ap (λ t. t.env.cells) leaves)) (left-kept was.asking x was.env (reached-kept f c past was h before))
+
+-- eight cells stay eight
+
+given-eight : (cells : Option Cells) → IsTrue (option_map_or are_cells cells true) → AreEight (option_map (λ cs. cs.0) cells)
+given-eight None h = tt
+given-eight (Some cells) h = eqb-true _ 8 h
+
+opening-eight : (core : ℕ) (c : Context) → HasEightCells c → AreEight (opening core c).cells
+opening-eight core Context.Boot h = tt
+opening-eight core (Context.Receive r) h = given-eight r.cells h
+opening-eight core (Context.GlobalStart op x) h = tt
+opening-eight core (Context.LocalStart op x) h = tt
+opening-eight core (Context.LocalStop op x) h = tt
+opening-eight core (Context.GlobalStop op x) h = tt
+
+pub reached-eight : (f : Made) (c : Context) (es : List Exchange) (s : Standing) → HasEightCells c → IsReached f c es s → AreEight s.env.cells
+reached-eight f c es s h r =
+    reached-kept AreEight tt (λ cells i n eight. length-set cells i n ∙ eight) f c es s (opening-eight f.core c h) r
+
+-- and where a context comes with none there are none
+pub reached-without : (f : Made) (c : Context) (es : List Exchange) (s : Standing) → (opening f.core c).cells ≡ None → IsReached f c es s
+    → s.env.cells ≡ None
+reached-without f c es s h r = reached-kept (λ cells. cells ≡ None) refl (λ cells i n some. absurd cc) f c es s h r
