@@ -6,7 +6,7 @@ use Rattle.em_log.specs.Declarations.{declarations_of}
 use Rattle.em_log.specs.Lawful.{is_declared, is_placed}
 use Rattle.em_log.specs.WellFormed.{IsWellFormed, is_plain}
 use Rattle.em_log.specs.Works.{Exchange}
-use Rattle.em_body.specs.AskLaws.{IsAskOf, HasKeptCells, MayStand}
+use Rattle.em_body.specs.AskLaws.{IsAskOf, HasEightCells, MayStand}
 use Rattle.em_body.specs.Followed.{IsReached}
 use Rattle.em_body.specs.Standings.{Made, Standing, unanswered, body_of, entry_of}
 use Rattle.em_body.proofs.AsksOfStatements.{asks-are}
@@ -14,7 +14,7 @@ use Rattle.em_body.proofs.Bodies.{place_of, body-statements}
 use Rattle.em_body.proofs.KeptCells.{reached-eight}
 use Rattle.em_body.proofs.PlainStatements.{all-plain, ask-declared, ask-placed}
 
-pub asks-stand : (f : Made) → IsWellFormed f.graph → (c : Context) → HasKeptCells c → (es : List Exchange) (s : Standing) → IsReached f c es s
+pub asks-stand : (f : Made) → IsWellFormed f.graph → (c : Context) → HasEightCells c → (es : List Exchange) (s : Standing) → IsReached f c es s
     → (a : Ask) → unanswered s ≡ Some a → MayStand f.graph c s.env a
 asks-stand f well c eight es s reached a some =
     let plain = all-plain f.graph (place_of c) 16 (body_of f.graph c) (body-statements f.graph well c) in
