@@ -4,3 +4,4 @@ pub mod Single
 pub mod Asked
 pub mod Ended
 pub mod Allowed
+pub mod Waiting
