@@ -1,4 +1,4 @@
-use Rattle.std.proofs.Common.{◌≡◌, refl, ap, sym, ◌∙◌}
+use Rattle.std.proofs.Common.{refl, ap, sym, ◌∙◌}
 use Rattle.em_body.specs.Everywhere.{everywhere, everywhere_in}
 use Rattle.em_drive.specs.Runnable as runnable
 use Rattle.em_drive.proofs.Everywhere.{everywhere-if, everywhere-repeat}
