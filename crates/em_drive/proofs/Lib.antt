@@ -1,2 +1,4 @@
 pub mod Everywhere
 pub mod OrderUsed
+pub mod Simple
+pub mod Served

@@ -1,7 +1,7 @@
 -- The order in which cores take turns, and what it is on the way: with the missing numbers below k alone.
 use Rattle.std.proofs.Common.{◌≡◌, ◌⊎◌, inl, inr, ℕ, zero, suc, ◌+◌, ◌<◌, ◌≤◌, ◌==◌, Bool, true, false, not, nat_lt, eqb, ◌&&◌, ◌||◌, List, [], ◌∷◌, ◌++◌, length, take, cond, append-nil, append_assoc, length-append, refl, ap, sym, ◌∙◌, subst, arith}
 use Rattle.std.specs.List.{filter, list_any, AllByRecursion, IsDistinct}
-use Rattle.std.proofs.lemmas.Bool.{eqb-true, ltb-true, lt-ltb}
+use Rattle.std.proofs.lemmas.Bool.{eqb-true, ltb-true, lt-ltb, and_right, or_right, or_parts}
 use Rattle.std.proofs.lemmas.Bool.Decides.{nat_tests}
 use Rattle.std.proofs.lemmas.List.Elements.{filter-append}
 use Rattle.std.proofs.lemmas.List.Folds.{list_any-append}
@@ -49,13 +49,9 @@ one-of-both false b true h = inr refl
 one-of-both false true false h = absurd cc
 one-of-both false false false h = absurd cc
 
-and-off-or : (a d : Bool) → d ≡ true → ((a && false) || d) ≡ true
-and-off-or true d q = q
-and-off-or false d q = q
-
 both-on : (a b d : Bool) → a ≡ true → d ≡ true → ((a && b) || (not b && d)) ≡ true
 both-on a true d p q = rw p refl
-both-on a false d p q = and-off-or a d q
+both-on a false d p q = or_right (a && false) d q
 
 used-within : (list : List ℕ) (n k : ℕ) → k ≤ n → (c : ℕ) → has (kept list n ++ missing list k) c ≡ true → c < n
 used-within list n k le c is =
@@ -81,16 +77,12 @@ different-numbers : (n a : ℕ) → AreDifferent (numbers_from a n)
 different-numbers zero a = tt
 different-numbers (suc n) a = (not-above n (suc a) a (omega arith), different-numbers n (suc a))
 
-and-off : (a b : Bool) → b ≡ false → (a && b) ≡ false
-and-off true b e = e
-and-off false b e = refl
-
 different-filter : (p : ℕ → Bool) (xs : List ℕ) → AreDifferent xs → AreDifferent (filter p xs)
 different-filter p [] d = tt
 different-filter p (x ∷ xs) d = by_test (p x) refl (different-filter p xs d.1)
   where
     by_test : (b : Bool) → p x ≡ b → AreDifferent (filter p xs) → AreDifferent (filter p (x ∷ xs))
-    by_test true e rest = rw e (has-filter p xs x ∙ and-off (p x) (has xs x) d.0, rest)
+    by_test true e rest = rw e (has-filter p xs x ∙ and_right (p x) (has xs x) d.0, rest)
     by_test false e rest = rw e rest
 
 different-append : (xs ys : List ℕ) → AreDifferent xs → AreDifferent ys → ((c : ℕ) → has xs c ≡ true → has ys c ≡ false)
@@ -101,12 +93,8 @@ different-append (x ∷ xs) ys d e apart =
     let there = apart x own in
     let here = d.0 in (
       list_any-append (λ m. m == x) xs ys ∙ rw (here, there) refl,
-      different-append xs ys d.1 e (λ c is. apart c (or-right (x == c) (has xs c) is)),
+      different-append xs ys d.1 e (λ c is. apart c (or_right (x == c) (has xs c) is)),
     )
-  where
-    or-right : (a b : Bool) → b ≡ true → (a || b) ≡ true
-    or-right true b h = refl
-    or-right false b h = h
 
 used-once : (list : List ℕ) (n k : ℕ) → AreDifferent list → AreDifferent (kept list n ++ missing list k)
 used-once list n k d =
@@ -129,17 +117,13 @@ used-order list n d =
 
 -- ---- how many there are
 
-or-false : (a b : Bool) → (a || b) ≡ false → (a ≡ false) × (b ≡ false)
-or-false true b h = absurd cc
-or-false false b h = (refl, h)
-
 flipped : (m n : ℕ) → (m == n) ≡ eqb n m
 flipped m n = grind (arith, nat_tests)
 
 each-other : (x : ℕ) (xs : List ℕ) → has xs x ≡ false → AllByRecursion (λ y. eqb x y ≡ false) xs
 each-other x [] none = tt
 each-other x (y ∷ ys) none =
-    let parts = or-false (y == x) (has ys x) none in
+    let parts = or_parts (y == x) (has ys x) none in
     (sym (flipped y x) ∙ parts.0, each-other x ys parts.1)
 
 distinct-of : (xs : List ℕ) → AreDifferent xs → IsDistinct eqb xs
