@@ -1,7 +1,4 @@
-pub mod Closed
-pub mod Opening
-pub mod Single
-pub mod Asked
-pub mod Ended
-pub mod Allowed
-pub mod Waiting
+pub mod Everywhere
+pub mod OrderUsed
+pub mod Simple
+pub mod Served

@@ -1,5 +1,6 @@
 //! Which graphs run today.
-ghost use Rattle.std.specs.Prelude.{◌≡◌};
+ghost use Rattle.std.specs.Prelude.{◌≡◌, ◌==◌, ◌&&◌};
+ghost use Rattle.std.specs.List.{list_all};
 ghost use Rattle.em_body.specs.Everywhere.{everywhere, everywhere_in};
 ghost use Rattle.em_drive.specs.Runnable as runnable;
 
@@ -58,16 +59,35 @@ fn is_runnable_queue(queue: &QueueDecl) -> bool
         && queue.group == Some(GroupId(0))
 }
 
-/// Whether the graph runs today.
-pub fn is_runnable(config: &Config) -> bool
-    ensures { result ≡ runnable.is_runnable config.now }
+fn are_runnable_objects(objects: &[EoDecl]) -> bool
+    ensures { result ≡ list_all runnable.is_runnable_object objects.now }
+{
+    objects.iter().all(is_runnable_object)
+}
+
+fn are_runnable_queues(queues: &[QueueDecl]) -> bool
+    ensures { result ≡ list_all runnable.is_runnable_queue queues.now }
+{
+    queues.iter().all(is_runnable_queue)
+}
+
+/// Whether the graph has one core, and no groups of any kind.
+fn has_one_core_alone(config: &Config) -> bool
+    ensures { result ≡ ((config.now.cores == 1) && runnable.is_empty config.now.groups && runnable.is_empty config.now.agroups && runnable.is_empty config.now.egroups) }
 {
     config.cores == 1
         && config.groups.as_slice().is_empty()
         && config.agroups.as_slice().is_empty()
         && config.egroups.as_slice().is_empty()
-        && config.eos.as_slice().iter().all(is_runnable_object)
-        && config.queues.as_slice().iter().all(is_runnable_queue)
+}
+
+/// Whether the graph runs today.
+pub fn is_runnable(config: &Config) -> bool
+    ensures { result ≡ runnable.is_runnable config.now }
+{
+    has_one_core_alone(config)
+        && are_runnable_objects(config.eos.as_slice())
+        && are_runnable_queues(config.queues.as_slice())
         && is_runnable_body(config.boot.as_slice())
         && config.error.is_none()
 }
