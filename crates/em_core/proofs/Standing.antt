@@ -72,7 +72,7 @@ counted-answered n words a x b hs counted is apart among new small = counted
 
 -- asks that are no end
 
-open-after : (a : Ask) (was : Option Context) → is_end a ≡ false → open_after a was ≡ was
+pub open-after : (a : Ask) (was : Option Context) → is_end a ≡ false → open_after a was ≡ was
 open-after (Ask.End cells) was mid = absurd cc
 open-after a was mid = refl
 

@@ -59,7 +59,7 @@ has-left w h (x ∷ hs) other is = by_head (eqb_tells x h) (has-left w h hs othe
         rw t.0 (rest tail)
     by_head (inr t) rest = rw t.0 (later (x == w) refl rest)
 
-or-none-first : {A : Type 0} (o p : Option A) → option_or o p ≡ None → (o ≡ None) × (p ≡ None)
+pub or-none-first : {A : Type 0} (o p : Option A) → option_or o p ≡ None → (o ≡ None) × (p ≡ None)
 or-none-first None p h = (refl, h)
 or-none-first (Some x) p h = absurd cc
 

@@ -1,4 +1,16 @@
+pub mod Closed
+pub mod Opening
+pub mod Single
+pub mod Asked
+pub mod Ended
+pub mod Allowed
+pub mod Waiting
 pub mod Everywhere
 pub mod OrderUsed
 pub mod Simple
 pub mod Served
+pub mod Took
+pub mod Taking
+pub mod Asking
+pub mod Answered
+pub mod GoneOn

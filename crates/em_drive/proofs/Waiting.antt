@@ -1,6 +1,5 @@
 -- Where a run stands while a step of it waits for its reply.
-use Rattle.std.proofs.Common.{◌≡◌, ◌≢◌, ℕ, List, Option, Some, None, refl}
-use Rattle.std.specs.Option.{option_map}
+use Rattle.std.proofs.Common.{◌≡◌, ◌≢◌, ℕ, List, Option, Some, None, refl, ◌∙◌}
 use Rattle.em_log.specs.declared.ask.Ask.{Ask}
 use Rattle.em_log.specs.declared.graph.Config.{Config}
 use Rattle.em_log.specs.declared.ids.Cells.{Cells}

@@ -1,6 +1,7 @@
 -- A run on its way.
-use Rattle.std.specs.Prelude.{ℕ, ◌≡◌, false, List, Option, Some, None, IfSome, IsTrue}
+use Rattle.std.specs.Prelude.{◌≡◌, false, List, Option, Some, None, IfSome, IsTrue}
 use Rattle.em_log.specs.declared.ask.Answer.{Answer}
+use Rattle.em_log.specs.declared.ask.Context.{Context}
 use Rattle.em_log.specs.declared.graph.Config.{Config}
 use Rattle.em_log.specs.declared.ids.EndKind.{EndKind}
 use Rattle.em_log.specs.declared.ids.Limits.{Limits}
@@ -12,7 +13,6 @@ use Rattle.em_core.specs.declared.core_run.Step.{Step}
 use Rattle.em_core.specs.Pieces.{Piece, history, open_context, exchanges}
 use Rattle.em_core.specs.Stands.{Stands}
 use Rattle.em_core.specs.Steps.{unreplied, over}
-use Rattle.em_body.specs.AskLaws.{HasEightCells}
 use Rattle.em_body.specs.contracts.run.BodyRunWork.TheImpl.{ghosts}
 use Rattle.em_body.specs.Standings.{Run}
 use Rattle.em_desk.specs.State.{DeskState}
@@ -23,6 +23,11 @@ use Rattle.em_drive.specs.Runs.{IsRun}
 -- the graph whose bodies the run's are
 abbrev pub graph_in : CoreRun Run → Config
 graph_in run = run.work.made.graph
+
+-- a context that comes without cells
+abbrev pub HasNoCells : Context → Type 0
+HasNoCells (Context.Receive r) = r.cells ≡ None
+HasNoCells context = Unit {0}
 
 -- the desk's history is that of the run of core 0, which runs the bodies of this graph: its open context has followed its
 -- body so far, and each that ended has followed it to the end
@@ -37,7 +42,7 @@ pub record IsGoing (g : Config) (l : Limits) (desk : DeskState) (run : CoreRun R
   pub stands : Stands ghosts run 0 (record { graph = g; core = 0 }) pieces
   pub all : history 0 pieces ≡ desk.past
   pub current : IsCurrent g desk.past 0 (open_context pieces) (exchanges pieces) (asked_entries pieces)
-  pub cells : IfSome (open_context pieces) HasEightCells
+  pub cells : IfSome (open_context pieces) HasNoCells
   pub ended : EndedFollow g desk.past
 
 -- the same, and this step waits for its reply

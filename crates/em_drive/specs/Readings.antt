@@ -9,7 +9,7 @@ use Rattle.em_log.specs.Contexts as log
 use Rattle.em_log.specs.Declarations.{declarations_of}
 use Rattle.em_log.specs.History.{Past}
 use Rattle.em_log.specs.Lawful.{is_boot_or_receive}
-use Rattle.em_log.specs.Legal.{Lead, leads, whats, AreLeads, body_of, opening}
+use Rattle.em_log.specs.Legal.{leads, whats, AreLeads, body_of, opening}
 use Rattle.em_log.specs.Works.{Exchange}
 use Rattle.em_core.specs.Pieces.{Piece, begun_by}
 use Rattle.em_body.specs.Followed.{AreRead, pairs_of}

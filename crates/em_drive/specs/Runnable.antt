@@ -1,6 +1,6 @@
 -- The graphs that run today: of one core, with pools, objects that run and have a receive body alone, and parallel queues of
 -- priority normal in the group of all cores.
-use Rattle.std.specs.Prelude.{ℕ, zero, suc, ◌==◌, Bool, true, false, not, ◌&&◌, ◌||◌, List, [], ◌∷◌, Option, Some, None, is_none}
+use Rattle.std.specs.Prelude.{◌==◌, Bool, true, false, not, ◌&&◌, ◌||◌, List, [], ◌∷◌, Option, Some, None, is_none}
 use Rattle.std.specs.List.{list_all}
 use Rattle.em_log.specs.declared.body.Stmt.{Stmt}
 use Rattle.em_log.specs.declared.graph.Config.{Config}

@@ -71,6 +71,7 @@ fn take<'a, G: Gate>(
     ensures after { (g : TheConfig) (l : TheLimits) → IsAwaiting (Some TheStep.Take) g l desk.old run.old → IfOk result (IsAfter g l desk.new run.new) }
     ensures grows { IfOk result (λ end. end ≡ None → length desk.old.past < length desk.new.past) }
 {
+    desk.history_is_simple();
     let reply = desk.take(CORE, run.locals())?;
     desk.history_is_simple();
     tell(gate, &reply.answer);
@@ -86,6 +87,7 @@ fn ask<'a>(desk: &mut Desk, run: &mut CoreRun<BodyRun<'a>>, ask: Ask)
 {
     desk.history_is_simple();
     let reply = desk.ask(CORE, ask, run.locals());
+    desk.history_is_simple();
     run.told(&reply);
 }
 
@@ -128,6 +130,7 @@ pub fn solo<G: Gate>(
     let mut desk = Desk::build(alloc, config, limits)?;
     let mut run = CoreRun::new(CORE, BodyRun::new(config, CORE));
     loop {
+        desk.history_is_simple();
         // The order of a graph of one core is that core.
         for _ in order.as_slice() {
             if let Some(end) = turn(&mut desk, &mut run, gate)? {
