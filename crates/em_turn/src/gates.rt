@@ -4,11 +4,17 @@ use std::array;
 use std::sync::Wait;
 use std::sync::atomic::AtomicU64;
 use std::sync::atomic::Ordering::SeqCst;
+use std::time::Duration;
+
+// How long a nap is, in microseconds.
+const NAP: u64 = 50;
 
 /// A gate for each ticket modulo 64. At most 64 seats have a ticket, so no two that wait have one gate.
 #[derive(Drop)]
 pub struct Gates {
     marks: [AtomicU64; 64],
+    // It stays 0, and nobody is woken there.
+    quiet: AtomicU64,
 }
 
 // What a gate contains while a seat sleeps there with the ticket. Its low half is never 0, which is an open gate.
@@ -20,7 +26,13 @@ impl Gates {
     pub fn new() -> Gates {
         Gates {
             marks: array::from_fn(|_| AtomicU64::new(0)),
+            quiet: AtomicU64::new(0),
         }
+    }
+
+    /// Sleeps about as long as a nap, with no gate, and maybe less.
+    pub fn nap(&self, wait: &impl Wait) {
+        self.quiet.park_timeout(wait, 0, Duration::from_micros(NAP));
     }
 
     /// Shuts the gate of the ticket.

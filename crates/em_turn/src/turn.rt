@@ -21,8 +21,11 @@ const TICKET: usize = 0;
 // The word with the ticket that has the turn.
 const SERVING: usize = 1;
 
-// How often the next in line looks before it sleeps. No seat yields: that hands a processor to other programs for milliseconds.
+// How often a seat looks before it sleeps. No seat yields: that hands a processor to other programs for milliseconds.
 const LOOKS: u32 = 50;
+
+// How often a seat naps before it draws a ticket though others have one.
+const NAPS: u32 = 10;
 
 /// A lock round one value. Contracts see which lock it is.
 #[derive(Drop)]
@@ -108,13 +111,14 @@ impl<V: Listed> Turn<V> {
         self.table.shared.load::<Check>(&mut seat.seat, TICKET);
     }
 
-    /// Draws a ticket, waits until it is served, and hands out the value.
+    /// Waits a while where other seats have tickets, draws one, waits until it is served, and hands out the value.
     pub fn enter(&self, wait: &impl Wait, seat: &mut TurnSeat<V>) -> V
         requires here { (seat.old.turn ≡ self.now) × (seat.old.inside ≡ false) }
         ensures list { GoesOn (V.items result) seat.old }
         ensures fixed { V.fixed result ≡ seat.old.fixed }
         ensures seat { seat.new ≡ with_turn seat.old (V.items result) }
     {
+        self.await_gap(wait);
         let ticket = self
             .table
             .shared
@@ -159,6 +163,28 @@ impl<V: Listed> Turn<V> {
         let value = closed.take(0);
         closed.free();
         value.unwrap()
+    }
+
+    // Returns once no seat has a ticket, and else after some naps. So few seats are in line, and a turn seldom passes to one that sleeps.
+    fn await_gap(&self, wait: &impl Wait) {
+        for _ in 0..NAPS {
+            if self.is_free_soon() {
+                return;
+            }
+            self.gates.nap(wait);
+        }
+    }
+
+    // Whether no seat had a ticket, at one of some looks.
+    fn is_free_soon(&self) -> bool {
+        for _ in 0..LOOKS {
+            let served = self.table.shared.peek(SERVING);
+            if served == self.table.shared.peek(TICKET) {
+                return true;
+            }
+            spin_loop();
+        }
+        false
     }
 
     // Returns once the ticket is served, and maybe before. It looks again after it shut the gate, and who passes the turn on looks at the gate after that.

@@ -1,4 +1,5 @@
-//! Writes a history of so many entries into memory and reads it back: the sizes as a table, or, with a number, the nanoseconds for histories of so many entries.
+//! Writes a history of so many entries into memory and reads it back: the sizes as a table, or, with a number, the nanoseconds
+//! for traces of so many entries. A second number is how many entries the history has of which they are parts.
 #![tactic(auto)]
 
 use em_io::SureSink;
@@ -57,33 +58,45 @@ fn size(alloc: Global, count: u64) -> Option<(usize, usize)> {
     Some((sink.bytes().len(), trace.entries.as_slice().len()))
 }
 
-/// How many entries are written and read in each measurement, as histories of the size that is asked for. So the sizes
-/// differ in nothing but the length of a history.
+/// How many entries are written and read in each measurement, as traces of the size that is asked for.
 const ENTRIES: u64 = 100_000;
 
 /// How often a size is measured; the best counts.
 const RUNS: u32 = 7;
 
-fn timed(rt: &HostRuntime, count: usize) -> anyhow::Result<()> {
+/// The nanoseconds that it takes to write this history and to read it back, if there is memory.
+fn round(rt: &HostRuntime, entries: &[Entry]) -> anyhow::Result<Option<(u128, u128)>> {
     let alloc = rt.alloc();
-    let Ok(entries) = history(alloc, ENTRIES) else {
+    let mut sink = SureSink::new(alloc);
+    let start = Instant::now(rt)?;
+    let is_written = write_history(&mut sink, entries, EndKind::Quiet).is_ok();
+    let writing = start.elapsed(rt)?.as_nanos();
+    let start = Instant::now(rt)?;
+    let is_read = read_history(alloc, sink.bytes()).is_ok();
+    let reading = start.elapsed(rt)?.as_nanos();
+    Ok(if is_written && is_read {
+        Some((writing, reading))
+    } else {
+        None
+    })
+}
+
+/// Prints the nanoseconds for traces of `count` entries: parts of one history of `held` entries, over and over.
+fn timed(rt: &HostRuntime, count: u64, held: u64) -> anyhow::Result<()> {
+    let Ok(entries) = history(rt.alloc(), held) else {
         return Ok(());
     };
     let (mut writing, mut reading) = (u128::MAX, u128::MAX);
     for _ in 0..RUNS {
         let (mut writes, mut reads) = (0_u128, 0_u128);
-        for part in entries.as_slice().chunks(count.max(1)) {
-            let mut sink = SureSink::new(alloc);
-            let start = Instant::now(rt)?;
-            if write_history(&mut sink, part, EndKind::Quiet).is_err() {
-                return Ok(());
+        for _ in 0..ENTRIES / held.max(1) {
+            for part in entries.as_slice().chunks((count as usize).max(1)) {
+                let Some((write, read)) = round(rt, part)? else {
+                    return Ok(());
+                };
+                writes = writes.saturating_add(write);
+                reads = reads.saturating_add(read);
             }
-            writes = writes.saturating_add(start.elapsed(rt)?.as_nanos());
-            let start = Instant::now(rt)?;
-            if read_history(alloc, sink.bytes()).is_err() {
-                return Ok(());
-            }
-            reads = reads.saturating_add(start.elapsed(rt)?.as_nanos());
         }
         writing = writing.min(writes);
         reading = reading.min(reads);
@@ -93,9 +106,13 @@ fn timed(rt: &HostRuntime, count: usize) -> anyhow::Result<()> {
 }
 
 fn main(rt: HostRuntime) -> anyhow::Result<()> {
-    if let Some(word) = env::args(&rt)?.nth(1) {
-        if let Ok(count) = word.as_str().parse::<usize>() {
-            timed(&rt, count)?;
+    let mut words = env::args(&rt)?.skip(1);
+    if let Some(word) = words.next() {
+        if let Ok(count) = word.as_str().parse::<u64>() {
+            let held = words
+                .next()
+                .and_then(|word| word.as_str().parse::<u64>().ok());
+            timed(&rt, count, held.unwrap_or(ENTRIES))?;
         }
         return Ok(());
     }
