@@ -1,14 +1,7 @@
-pub mod Ascii
 pub mod Cutting
-pub mod Scripts
-pub mod Splitting
-pub mod NameTests
 pub mod Numbers
 pub mod Orders
 pub mod Numerals
-pub mod Saying
-pub mod FirstText
-pub mod FirstLegal
-pub mod FirstSteps
-pub mod Going
 pub mod Answering
+pub mod Ending
+pub mod Pieces

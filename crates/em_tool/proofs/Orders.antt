@@ -1,16 +1,10 @@
--- Cores and their numbers.
-use Rattle.std.proofs.Common.{◌≡◌, ◌<◌, ◌+◌, ◌++◌, take, ◌∙◌, sym, ℕ, suc, length, get_or, arith, List, [], ◌∷◌, refl, ap}
-use Rattle.std.proofs.lemmas.List.{take_more}
-use Rattle.em_log.specs.declared.ids.CoreId.{CoreId}
+-- Cores in their order.
+use Rattle.std.proofs.Common.{◌≡◌, ◌<◌, ◌==◌, ◌||◌, Bool, true, false, Contains, take, ◌∙◌, refl, sym, ℕ, suc, length, get_or, arith, eqb-true, List, [], ◌∷◌, ap}
+use Rattle.em_log.specs.History.{has}
+use Rattle.em_log.specs.Laws.{AreDifferent}
 use Rattle.em_tool.specs.Decimal.{AllFit, AreNumbers}
-use Rattle.em_tool.specs.declared.words.Solo.{Solo}
-use Rattle.em_tool.specs.Words.{IsOrder, numbers_of}
-
-pub numbers_of-injective : (xs ys : List CoreId) → numbers_of xs ≡ numbers_of ys → xs ≡ ys
-numbers_of-injective [] [] e = refl
-numbers_of-injective [] (y ∷ ys) e = absurd (cc (e))
-numbers_of-injective (x ∷ xs) [] e = absurd (cc (e))
-numbers_of-injective (x ∷ xs) (y ∷ ys) e = let first : x.0 ≡ y.0 = cc (e) in let rest = numbers_of-injective xs ys (cc (e)) in let same : x ≡ y = ap (λ n. record { 0 = n }) first in cc
+use Rattle.em_tool.specs.declared.commands.Solo.{Solo}
+use Rattle.em_tool.specs.Words.{IsOrder}
 
 AllFit-below : (ns : List ℕ) → ((i : ℕ) → i < length ns → get_or ns i 0 < 64) → AllFit ns
 AllFit-below [] small = tt
@@ -23,18 +17,35 @@ AreNumbers-below (n ∷ ns) some small = AllFit-below (n ∷ ns) small
 pub AreNumbers-order : (ns : List ℕ) → IsOrder ns → AreNumbers ns
 AreNumbers-order ns is = AreNumbers-below ns is.some is.cores
 
-pub numbers_of-append : (xs ys : List CoreId) → numbers_of (xs ++ ys) ≡ numbers_of xs ++ numbers_of ys
-numbers_of-append [] ys = refl
-numbers_of-append (x ∷ xs) ys = ap (λ l. x.0 ∷ l) (numbers_of-append xs ys)
+-- what is among them stands at some place
+has-place : (ns : List ℕ) (n : ℕ) → has ns n ≡ true → (i : ℕ) × (i < length ns) × (get_or ns i 0 ≡ n)
+has-place [] n e = absurd (cc (e))
+has-place (m ∷ ns) n e = by_test (m == n) refl e (has-place ns n)
+  where
+    by_test : (b : Bool) → (m == n) ≡ b → (b || has ns n) ≡ true → (has ns n ≡ true → (i : ℕ) × (i < length ns) × (get_or ns i 0 ≡ n))
+        → (i : ℕ) × (i < length (m ∷ ns)) × (get_or (m ∷ ns) i 0 ≡ n)
+    by_test true same e rest = (0, omega arith, eqb-true m n same)
+    by_test false other e rest = let found = rest e in (suc found.0, (let below = found.1 in omega (arith, below)), found.2)
 
-pub numbers_of-push : (numbers : List ℕ) (order : List CoreId) (i : ℕ) → i < length numbers → numbers_of order ≡ take i numbers
-    → numbers_of (order ++ record { 0 = get_or numbers i 0 } ∷ []) ≡ take (i + 1) numbers
-numbers_of-push numbers order i below so_far = numbers_of-append order (record { 0 = get_or numbers i 0 } ∷ []) ∙ ap (λ l. l ++ get_or numbers i 0 ∷ []) so_far ∙ sym (take_more numbers i 0 below)
+-- different by place is different one by one
+apart : (ns : List ℕ) → ((i : ℕ) → i < length ns → ¬ (Contains (take i ns) (get_or ns i 0))) → AreDifferent ns
+apart [] different = tt
+apart (n ∷ ns) different = (by_test (has ns n) refl, apart ns (λ i below stands. different (suc i) (omega (arith, below)) (suc stands.0, omega (arith, stands.1), stands.2)))
+  where
+    by_test : (b : Bool) → has ns n ≡ b → has ns n ≡ false
+    by_test false e = e
+    by_test true e =
+        let found = has-place ns n e in
+        let below = found.1 in
+        absurd (different (suc found.0) (omega (arith, below)) (0, omega arith, sym found.2))
 
-abbrev whole : ℕ → ℕ → List CoreId → Solo
+pub AreDifferent-order : (ns : List ℕ) → IsOrder ns → AreDifferent ns
+AreDifferent-order ns is = apart ns is.different
+
+abbrev whole : ℕ → ℕ → List ℕ → Solo
 whole receives burst order = record { limits = record { receives = receives; burst = burst }; order = order }
 
-pub solo-equals : (receives : ℕ) (order : List CoreId) (solo : Solo) → receives ≡ solo.limits.receives → 1 ≡ solo.limits.burst → order ≡ solo.order
+pub solo-equals : (receives : ℕ) (order : List ℕ) (solo : Solo) → receives ≡ solo.limits.receives → 1 ≡ solo.limits.burst → order ≡ solo.order
     → ◌≡◌ {A = Solo} (record { limits = record { receives = receives; burst = 1 }; order = order }) solo
 solo-equals receives order solo first second third =
-    ap (λ (n : ℕ). whole n 1 order) first ∙ ap (λ (n : ℕ). whole solo.limits.receives n order) second ∙ ap (λ (o : List CoreId). whole solo.limits.receives solo.limits.burst o) third
+    ap (λ (n : ℕ). whole n 1 order) first ∙ ap (λ (n : ℕ). whole solo.limits.receives n order) second ∙ ap (λ (o : List ℕ). whole solo.limits.receives solo.limits.burst o) third

@@ -1,40 +1,65 @@
 -- The main theorem's statement.
-use Rattle.std.specs.Prelude.{ℕ, ◌≡◌, ◌≤◌, ◌⊎◌, List, length, reverse, Option, IsTrue}
+use Rattle.std.specs.Prelude.{ℕ, ◌≡◌, ◌≤◌, ◌⊎◌, List, length, Option, IsTrue}
 use Rattle.std.specs.Io.KnownBytes.{append_known}
 use Rattle.em_log.specs.declared.graph.Config.{Config}
 use Rattle.em_log.specs.declared.entry.Entry.{Entry}
 use Rattle.em_log.specs.declared.ids.EndKind.{EndKind}
-use Rattle.em_log.specs.Declarations.{declarations_of}
-use Rattle.em_log.specs.Eligible.{is_quiet}
 use Rattle.em_log.specs.Legal.{IsLegal}
+use Rattle.em_log.specs.WellFormed.{IsWellFormed}
 use Rattle.em_io.specs.Faults.{HasRisen}
+use Rattle.em_drive.specs.Runnable.{is_runnable}
+use Rattle.em_script.specs.Scripts.{IsScript}
+use Rattle.em_script.specs.Spelling.{spelling}
 use Rattle.em_trace.specs.Text.{text}
-use Rattle.em_tool.specs.declared.words.Solo.{Solo}
-use Rattle.em_tool.specs.FirstForm.{IsFirstForm}
-use Rattle.em_tool.specs.Words.{IsSolo}
+use Rattle.em_tool.specs.declared.commands.Solo.{Solo}
+use Rattle.em_tool.specs.Outcome.{HasEnded, most_bytes}
+use Rattle.em_tool.specs.Words.{IsCheck, IsSolo}
 
--- What a run with status 0 has written, where its source told these bytes: the text of one legal history of the script
--- that the bytes are, under the limits of the words, and nothing else; and nothing was left to do.
-pub record Headline (words : List (List ℕ)) (bytes : List ℕ) (before after : Option (List ℕ)) : Type 0 where
-  pub command : Solo
-  pub known : IsSolo words command
+-- What a run that has ended so has written, where its source told these bytes: the text of one legal history of the
+-- script that the bytes are, under the limits of the words, and nothing else.
+pub record Headline (solo : Solo) (bytes : List ℕ) (end : EndKind) (before after : Option (List ℕ)) : Type 0 where
   pub graph : Config
-  pub script : IsFirstForm bytes graph
+  pub well_formed : IsWellFormed graph
+  pub script : IsScript bytes graph
   pub history : List Entry
-  pub legal : IsLegal graph command.limits history
-  pub quiet : IsTrue (is_quiet (declarations_of graph) (reverse history))
-  pub written : after ≡ append_known before (text history EndKind.Quiet)
+  pub legal : IsLegal graph solo.limits history
+  pub ended : HasEnded graph solo.limits history end
+  pub written : after ≡ append_known before (text history end)
 
--- The premises under which a run has status 0, or 7 for want of memory: the words are a command, the bytes a script, and
--- no call on the source or the sink failed.
-pub record CanRun (words : List (List ℕ)) (bytes : List ℕ) (read_faults read_faults_after write_faults write_faults_after : ℕ) : Type 0 where
-  pub command : Solo
-  pub known : IsSolo words command
-  pub few : length bytes ≤ 65536
+-- What a check has written, where its source told these bytes: the canonical spelling of the graph of which the bytes are
+-- a script, and nothing else.
+pub record Checked (bytes : List ℕ) (before after : Option (List ℕ)) : Type 0 where
   pub graph : Config
-  pub script : IsFirstForm bytes graph
+  pub well_formed : IsWellFormed graph
+  pub script : IsScript bytes graph
+  pub written : after ≡ append_known before (spelling graph)
+
+-- The premises under which a check has status 0, or 7 for want of memory: the words are `check`, the bytes are a script,
+-- and no call on the source or the sink failed.
+pub record CanCheck (words : List (List ℕ)) (bytes : List ℕ) (read_faults read_faults_after write_faults write_faults_after : ℕ) : Type 0 where
+  pub check : IsCheck words
+  pub few : length bytes ≤ most_bytes
+  pub graph : Config
+  pub well_formed : IsWellFormed graph
+  pub script : IsScript bytes graph
   pub read : ¬ HasRisen read_faults read_faults_after
   pub wrote : ¬ HasRisen write_faults write_faults_after
 
-abbrev pub IsZeroOrSeven : ℕ → Type 0
-IsZeroOrSeven status = (status ≡ 0) ⊎ (status ≡ 7)
+-- The premises under which a run has status 0 or 3, or 7 for want of memory: the words are a run, the bytes are a script
+-- of a graph that runs today, and no call on the source or the sink failed.
+pub record CanRun (words : List (List ℕ)) (bytes : List ℕ) (read_faults read_faults_after write_faults write_faults_after : ℕ) : Type 0 where
+  pub solo : Solo
+  pub known : IsSolo words solo
+  pub few : length bytes ≤ most_bytes
+  pub graph : Config
+  pub well_formed : IsWellFormed graph
+  pub script : IsScript bytes graph
+  pub runnable : IsTrue (is_runnable graph)
+  pub read : ¬ HasRisen read_faults read_faults_after
+  pub wrote : ¬ HasRisen write_faults write_faults_after
+
+abbrev pub IsChecked : ℕ → Type 0
+IsChecked status = (status ≡ 0) ⊎ (status ≡ 7)
+
+abbrev pub IsRun : ℕ → Type 0
+IsRun status = (status ≡ 0) ⊎ (status ≡ 3) ⊎ (status ≡ 7)

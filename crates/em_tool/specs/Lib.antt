@@ -1,12 +1,5 @@
 pub mod Decimal
 pub mod Fields
-pub mod FirstForm
-pub mod Parts
-pub mod Said
-pub mod Script
-pub mod Spelling
 pub mod Words
-pub mod FirstRun
-pub mod RunState
 pub mod Outcome
 pub mod Headline

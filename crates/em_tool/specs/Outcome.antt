@@ -1,22 +1,27 @@
 -- What a call of a command comes to: the status and the text that are due, and what is written of it.
-use Rattle.std.specs.Prelude.{ℕ, ◌≡◌, ◌<◌, ◌≤◌, ◌++◌, List, [], ◌∷◌, length, reverse, codes, Option, IfSome, IsTrue}
+use Rattle.std.specs.Prelude.{ℕ, ◌≡◌, ◌<◌, ◌≤◌, ◌++◌, List, [], ◌∷◌, length, reverse, codes, false, Option, IfSome, IsTrue, Ok, Err}
+use Rattle.std.specs.Fmt.{decimal}
 use Rattle.std.specs.Io.KnownBytes.{append_known, IsAtEnd}
 use Rattle.em_log.specs.declared.graph.Config.{Config}
 use Rattle.em_log.specs.declared.entry.Entry.{Entry}
 use Rattle.em_log.specs.declared.ids.Limits.{Limits}
 use Rattle.em_log.specs.declared.ids.EndKind.{EndKind}
 use Rattle.em_log.specs.Declarations.{declarations_of}
-use Rattle.em_log.specs.Eligible.{is_quiet}
+use Rattle.em_log.specs.Eligible.{is_quiet, is_at_limit}
 use Rattle.em_log.specs.Legal.{IsLegal}
 use Rattle.em_io.specs.Faults.{HasRisen, HasRisenBeyond}
 use Rattle.em_io.specs.Sink.{AppendsPrefix}
 use Rattle.em_io.specs.Source.{Takes}
+use Rattle.em_drive.specs.Runnable.{is_runnable}
+use Rattle.em_script.specs.Reading.{Found, script_of}
+use Rattle.em_script.specs.Spelling.{spelling}
 use Rattle.em_trace.specs.Text.{text}
-use Rattle.em_tool.specs.declared.words.Solo.{Solo}
+use Rattle.em_tool.specs.declared.commands.Command.{Command}
+use Rattle.em_tool.specs.declared.commands.Command.TheVariants as commands
+use Rattle.em_tool.specs.declared.commands.Solo.{Solo}
 use Rattle.em_tool.specs.declared.outcome.Outcome.{Outcome}
 use Rattle.em_tool.specs.declared.outcome.Outcome.TheVariants as outcomes
-use Rattle.em_tool.specs.FirstForm.{IsFirstForm}
-use Rattle.em_tool.specs.Words.{IsSolo}
+use Rattle.em_tool.specs.Words.{IsCheck, IsCommand, IsSolo}
 
 -- reading
 
@@ -53,16 +58,16 @@ pub record ReadsTooMuch (r : Reading) : Type 0 where
 
 -- running
 
--- the history is legal under the graph and the limits, and leaves nothing to do
-pub record IsWholeRun (g : Config) (l : Limits) (history : List Entry) : Type 0 where
-  pub legal : IsLegal g l history
-  pub quiet : IsTrue (is_quiet (declarations_of g) (reverse history))
+-- nothing is left to do, or the stated number of receives has started and one more would be served
+abbrev pub HasEnded : Config → Limits → List Entry → EndKind → Type 0
+HasEnded g l history EndKind.Quiet = IsTrue (is_quiet (declarations_of g) (reverse history))
+HasEnded g l history EndKind.Limit = IsTrue (is_at_limit (declarations_of g) l (reverse history))
 
--- the bytes are a script, and the history is a whole run of its graph
-pub record Runs (bytes : List ℕ) (l : Limits) (history : List Entry) : Type 0 where
-  pub graph : Config
-  pub script : IsFirstForm bytes graph
-  pub run : IsWholeRun graph l history
+-- the history is a legal one of the graph under the limits, and has ended so
+pub record Runs (g : Config) (l : Limits) (history : List Entry) (end : EndKind) : Type 0 where
+  pub runnable : IsTrue (is_runnable g)
+  pub legal : IsLegal g l history
+  pub ended : HasEnded g l history end
 
 -- what is due
 
@@ -75,39 +80,63 @@ read_failed_text = codes "read failed" ++ 10 ∷ []
 abbrev pub too_long_text : List ℕ
 too_long_text = codes "input too long" ++ 10 ∷ []
 
-abbrev pub refused_text : List ℕ
-refused_text = codes "refused line 1 rule 12" ++ 10 ∷ []
+-- the line that fails, from 1, and the least rule that fails there
+abbrev pub refused_text : ℕ → ℕ → List ℕ
+refused_text line rule = codes "refused line " ++ (decimal line ++ (codes " rule " ++ (decimal rule ++ 10 ∷ [])))
+
+-- rule 12: the graph does not run today
+abbrev pub not_runnable_text : List ℕ
+not_runnable_text = refused_text 1 12
+
+abbrev pub status_of_end : EndKind → ℕ
+status_of_end EndKind.Quiet = 0
+status_of_end EndKind.Limit = 3
 
 abbrev pub status_of : Outcome → ℕ
 status_of outcomes.NotKnown = 2
 status_of outcomes.ReadFailed = 5
 status_of outcomes.TooLong = 6
-status_of outcomes.Refused = 4
-status_of (outcomes.Ran desk) = 0
+status_of (outcomes.Refused line rule) = 4
+status_of outcomes.NotRunnable = 4
+status_of (outcomes.Ran desk end) = status_of_end end
+status_of (outcomes.Checked bytes) = 0
 
 abbrev pub text_of_outcome : Outcome → List ℕ
 text_of_outcome outcomes.NotKnown = not_known_text
 text_of_outcome outcomes.ReadFailed = read_failed_text
 text_of_outcome outcomes.TooLong = too_long_text
-text_of_outcome outcomes.Refused = refused_text
-text_of_outcome (outcomes.Ran desk) = text (reverse desk.past) EndKind.Quiet
+text_of_outcome (outcomes.Refused line rule) = refused_text line rule
+text_of_outcome outcomes.NotRunnable = not_runnable_text
+text_of_outcome (outcomes.Ran desk end) = text (reverse desk.past) end
+text_of_outcome (outcomes.Checked bytes) = bytes.items
 
--- what the bytes of a script come to
-abbrev pub IsOutcomeOf : List ℕ → Limits → Outcome → Type 0
-IsOutcomeOf bytes l outcomes.Refused = (g : Config) → IsFirstForm bytes g → ⊥
-IsOutcomeOf bytes l (outcomes.Ran desk) = Runs bytes l (reverse desk.past)
-IsOutcomeOf bytes l outcome = ⊥
+-- what a command comes to at a graph
+abbrev pub GraphComesTo : Config → Command → Outcome → Type 0
+GraphComesTo g (commands.Solo s) outcomes.NotRunnable = is_runnable g ≡ false
+GraphComesTo g (commands.Solo s) (outcomes.Ran desk end) = Runs g s.limits (reverse desk.past) end
+GraphComesTo g commands.Check (outcomes.Checked bytes) = bytes.items ≡ spelling g
+GraphComesTo g command outcome = ⊥
+
+-- what a command comes to where the bytes are a script of a graph, or are refused
+abbrev pub ComesTo : Found → Command → Outcome → Type 0
+ComesTo (Ok g) command outcome = GraphComesTo g command outcome
+ComesTo (Err (line, rule)) command outcome = outcome ≡ outcomes.Refused line rule
 
 -- why this status and this text are due for these words and this reading; the first case that holds decides
 pub data Due (words : List (List ℕ)) (r : Reading) (status : ℕ) (told : List ℕ) : Type 0 where
-  NotKnown : ((s : Solo) → IsSolo words s → ⊥) → IsUntouched r → status ≡ 2 → told ≡ not_known_text → Due words r status told
-  ReadFailed : (s : Solo) → IsSolo words s → HasRisen r.faults r.faults_after → status ≡ 5 → told ≡ read_failed_text
+  NotKnown : ((c : Command) → IsCommand words c → ⊥) → IsUntouched r → status ≡ 2 → told ≡ not_known_text → Due words r status told
+  ReadFailed : (c : Command) → IsCommand words c → HasRisen r.faults r.faults_after → status ≡ 5 → told ≡ read_failed_text
       → Due words r status told
-  TooLong : (s : Solo) → IsSolo words s → ReadsTooMuch r → status ≡ 6 → told ≡ too_long_text → Due words r status told
-  Refused : (s : Solo) → IsSolo words s → (bytes : List ℕ) → ReadsAll r bytes → ((g : Config) → IsFirstForm bytes g → ⊥)
-      → status ≡ 4 → told ≡ refused_text → Due words r status told
-  Ran : (s : Solo) → IsSolo words s → (bytes : List ℕ) → ReadsAll r bytes → (history : List Entry) → Runs bytes s.limits history
-      → status ≡ 0 → told ≡ text history EndKind.Quiet → Due words r status told
+  TooLong : (c : Command) → IsCommand words c → ReadsTooMuch r → status ≡ 6 → told ≡ too_long_text → Due words r status told
+  Refused : (c : Command) → IsCommand words c → (bytes : List ℕ) → ReadsAll r bytes → (line rule : ℕ) → script_of bytes ≡ Err (line, rule)
+      → status ≡ 4 → told ≡ refused_text line rule → Due words r status told
+  NotRunnable : (s : Solo) → IsSolo words s → (bytes : List ℕ) → ReadsAll r bytes → (graph : Config) → script_of bytes ≡ Ok graph
+      → is_runnable graph ≡ false → status ≡ 4 → told ≡ not_runnable_text → Due words r status told
+  Ran : (s : Solo) → IsSolo words s → (bytes : List ℕ) → ReadsAll r bytes → (graph : Config) → script_of bytes ≡ Ok graph
+      → (history : List Entry) → (end : EndKind) → Runs graph s.limits history end → status ≡ status_of_end end → told ≡ text history end
+      → Due words r status told
+  Checked : IsCheck words → (bytes : List ℕ) → ReadsAll r bytes → (graph : Config) → script_of bytes ≡ Ok graph → status ≡ 0
+      → told ≡ spelling graph → Due words r status told
 
 -- what was written, and the status: the text that is due, or a prefix of it with status 1 where a call on the sink
 -- failed; status 7, want of memory, is free

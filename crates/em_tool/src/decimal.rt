@@ -1,9 +1,10 @@
 //! Numbers in decimal digits, with no sign and no leading zero.
 ghost use Rattle.std.specs.Prelude.{◌≡◌, ◌<◌, ◌^◌, ℕ, List as Items, IfOk, IfSome};
 ghost use Rattle.std.specs.Fmt.{decimal};
+ghost use Rattle.std.specs.Option.{option_map};
 ghost use Rattle.em_tool.specs.Decimal.{AreNumbers, spelled};
+ghost use Rattle.em_tool.specs.Fields.{cut};
 
-use crate::fields::cut;
 use em_log::{List, NoMemory};
 use std::alloc::Global;
 
@@ -27,6 +28,14 @@ pub fn number(text: &str) -> Option<u64>
         }
     }
     text.parse().ok()
+}
+
+/// The part before the first `end`, and what follows it.
+fn cut(end: char, text: &str) -> Option<(&str, &str)>
+    requires { end < 128 }
+    ensures { option_map (λ parts. (parts.0.now, parts.1.now)) result ≡ cut end text.now }
+{
+    text.split_once(end)
 }
 
 /// The numbers that the text spells, with the separator between each two.

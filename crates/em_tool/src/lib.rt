@@ -1,23 +1,18 @@
 //! The commands of the event machine.
 #![tactic(auto)]
 
+mod calls;
+mod commands;
 mod decimal;
-mod fields;
-pub mod first_form;
-mod graph;
-mod names;
-pub mod outcome;
-mod parts;
-pub mod plain;
-pub mod run;
-pub mod said;
-pub mod script;
-mod solo;
-pub mod words;
+mod outcome;
+mod plain;
+mod words;
+mod writing;
 
+pub use commands::{Command, Solo};
 pub use em_log::{CoreId, Gate, NoGate, QueueId};
 pub use plain::em_plain;
-pub use words::{Solo, command};
+pub use words::command;
 
 #[cfg(test)]
 mod tests;

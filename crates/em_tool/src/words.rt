@@ -1,18 +1,13 @@
 //! The words of a command.
 ghost use Rattle.std.specs.Prelude.{◌≡◌, ◌<◌, ◌↔◌, length, Contains, IsTrue, List as Items, IfOk, IfSome, map, string_bytes, [], ◌∷◌};
-ghost use Rattle.em_tool.specs.Words.{IsOrder, IsSolo, numbers_of};
-ghost use Rattle.em_tool.specs.declared.words.Solo.{Solo};
+ghost use Rattle.em_tool.specs.Words.{IsCommand, IsOrder, IsSolo};
+ghost use Rattle.em_tool.specs.declared.commands.Command.{Command};
+ghost use Rattle.em_tool.specs.declared.commands.Solo.{Solo};
 
+use crate::commands::{Command, Solo};
 use crate::decimal::{number, numbers};
-use em_log::{CoreId, Limits, List, NoMemory};
+use em_log::{Limits, List, NoMemory};
 use std::alloc::Global;
-
-/// The command `solo`: its limits, and the order in which the cores take turns.
-#[derive(Debug, Drop)]
-pub struct Solo {
-    pub limits: Limits,
-    pub order: List<CoreId>,
-}
 
 fn contains(numbers: &[u64], n: u64) -> bool
     ensures { IsTrue result ↔ Contains numbers.now n }
@@ -21,10 +16,10 @@ fn contains(numbers: &[u64], n: u64) -> bool
 }
 
 /// The cores of these numbers.
-fn order_of(alloc: Global, numbers: &[u64]) -> Result<Option<List<CoreId>>, NoMemory>
+fn order_of(alloc: Global, numbers: &[u64]) -> Result<Option<List<u8>>, NoMemory>
     requires { 0 < length numbers.now }
-    ensures order { IfOk result (λ found. IfSome found (λ order. (numbers_of order ≡ numbers.now) × IsOrder numbers.now)) }
-    ensures known { (order : Items _) → numbers_of order ≡ numbers.now → IsOrder numbers.now → IfOk result (λ found. found ≡ Some order) }
+    ensures order { IfOk result (λ found. IfSome found (λ order. (order ≡ numbers.now) × IsOrder order)) }
+    ensures known { IsOrder numbers.now → IfOk result (λ found. found ≡ Some numbers.now) }
 {
     if numbers.len() > 64 {
         return Ok(None);
@@ -37,7 +32,7 @@ fn order_of(alloc: Global, numbers: &[u64]) -> Result<Option<List<CoreId>>, NoMe
         if contains(&numbers[..i], *n) {
             return Ok(None);
         }
-        order.push(CoreId(*n as u8))?;
+        order.push(*n as u8)?;
     }
     Ok(Some(order))
 }
@@ -81,19 +76,35 @@ fn solo_of(
     Ok(Some(Solo { limits, order }))
 }
 
-/// The command that the words are.
-pub fn command(alloc: Global, words: &[String]) -> Result<Option<Solo>, NoMemory>
-    ensures is_solo { IfOk result (λ found. IfSome found (IsSolo (map string_bytes words.now))) }
-    ensures known { (solo : Solo) → IsSolo (map string_bytes words.now) solo → IfOk result (λ found. found ≡ Some solo) }
+/// The command of this one word.
+fn check_of(word: &str) -> Option<Command>
+    ensures is_check { IfSome result (IsCommand (word.now ∷ [])) }
+    ensures known { (asked : Command) → IsCommand (word.now ∷ []) asked → result ≡ Some asked }
 {
-    let [name, limit, burst, order] = words else {
-        return Ok(None);
-    };
-    solo_of(
-        alloc,
-        name.as_str(),
-        limit.as_str(),
-        burst.as_str(),
-        order.as_str(),
-    )
+    if word == "check" {
+        Some(Command::Check)
+    } else {
+        None
+    }
+}
+
+/// The command that the words are.
+pub fn command(alloc: Global, words: &[String]) -> Result<Option<Command>, NoMemory>
+    ensures is_command { IfOk result (λ found. IfSome found (IsCommand (map string_bytes words.now))) }
+    ensures known { (asked : Command) → IsCommand (map string_bytes words.now) asked → IfOk result (λ found. found ≡ Some asked) }
+{
+    match words {
+        [name, limit, burst, order] => {
+            let solo = solo_of(
+                alloc,
+                name.as_str(),
+                limit.as_str(),
+                burst.as_str(),
+                order.as_str(),
+            )?;
+            Ok(solo.map(Command::Solo))
+        }
+        [word] => Ok(check_of(word.as_str())),
+        _ => Ok(None),
+    }
 }
