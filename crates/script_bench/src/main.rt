@@ -58,8 +58,13 @@ fn objects(alloc: Global, room: usize) -> Option<Vec<u8>> {
     for number in 0..384 {
         let declared = declared(alloc, number)?;
         let body = body(alloc, number)?;
-        let more = declared.as_str().len() + body.as_str().len();
-        if bytes.len() + bodies.len() + more > room {
+        let more = declared.as_str().len().saturating_add(body.as_str().len());
+        if bytes
+            .len()
+            .saturating_add(bodies.len())
+            .saturating_add(more)
+            > room
+        {
             break;
         }
         add(&mut bytes, declared.as_str())?;
@@ -76,14 +81,15 @@ fn script(alloc: Global, size: usize) -> Option<Vec<u8>> {
     let mut bytes = objects(alloc, room)?;
     add(&mut bytes, "boot\n")?;
     for _ in 0..MOST {
-        if bytes.len() + FILLER.len() > room {
+        if bytes.len().saturating_add(FILLER.len()) > room {
             break;
         }
         add(&mut bytes, FILLER)?;
     }
     add(&mut bytes, "end\n#")?;
+    let comment_end = size.saturating_sub(TAIL.len()).saturating_sub(1);
     for _ in 0..MOST {
-        if bytes.len() + TAIL.len() + 1 >= size {
+        if bytes.len() >= comment_end {
             break;
         }
         add(&mut bytes, "#")?;
@@ -94,24 +100,24 @@ fn script(alloc: Global, size: usize) -> Option<Vec<u8>> {
 }
 
 /// The nanoseconds of the fastest run, and how many bytes it read.
-fn timed(rt: &HostRuntime, bytes: &[u8]) -> anyhow::Result<(u128, u64)> {
+fn timed(rt: &HostRuntime, bytes: &[u8]) -> anyhow::Result<(u128, u128)> {
     let alloc = rt.alloc();
     let mut best = (u128::MAX, 1);
     for _ in 0..RUNS {
-        let mut read = 0_u64;
+        let mut read = 0_u128;
         let mut nanoseconds = 0;
         let start = Instant::now(rt)?;
         for _ in 0..1_000_000 {
             if parse(alloc, bytes).is_err() {
                 return Ok((0, 1));
             }
-            read = read.saturating_add(bytes.len() as u64);
+            read = read.saturating_add(bytes.len() as u128);
             nanoseconds = start.elapsed(rt)?.as_nanos();
             if nanoseconds >= NANOSECONDS {
                 break;
             }
         }
-        if nanoseconds.saturating_mul(best.1 as u128) < best.0.saturating_mul(read as u128) {
+        if nanoseconds.saturating_mul(best.1) < best.0.saturating_mul(read) {
             best = (nanoseconds, read);
         }
     }
