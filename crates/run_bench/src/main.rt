@@ -2,6 +2,7 @@
 //! receives, the nanoseconds that runs took.
 #![tactic(auto)]
 
+ghost use Rattle.std.specs.Prelude.{◌≤◌, IfSome};
 ghost use Rattle.em_log.specs.WellFormed.{IsWellFormed};
 
 use em_drive::{Order, is_runnable, solo};
@@ -23,6 +24,16 @@ const RECEIVES: u32 = 200_000;
 
 /// How often they are timed; the best counts.
 const RUNS: u32 = 7;
+
+/// The graph of a script, if it is one.
+fn graph_of(alloc: Global, script: &[u8]) -> Option<Config>
+    ensures { IfSome result IsWellFormed }
+{
+    match parse(alloc, script) {
+        Ok(graph) => Some(graph),
+        Err(_) => None,
+    }
+}
 
 /// How many entries a run of so many receives has, where it comes to its limit.
 fn entries(alloc: Global, graph: &Config, receives: u16) -> Option<usize>
@@ -68,7 +79,7 @@ fn timed(rt: &HostRuntime, graph: &Config, receives: u16) -> anyhow::Result<(u12
 
 fn main(rt: HostRuntime) -> anyhow::Result<()> {
     let alloc = rt.alloc();
-    let Ok(graph) = parse(alloc, SCRIPT.as_bytes()) else {
+    let Some(graph) = graph_of(alloc, SCRIPT.as_bytes()) else {
         println!(rt; "the script is not read")?;
         return Ok(());
     };
