@@ -1,5 +1,4 @@
 pub mod Chain
 pub mod Refusals
 pub mod worked
-pub mod further
 pub mod wrong

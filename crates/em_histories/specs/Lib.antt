@@ -1,5 +1,4 @@
 pub mod Words
 pub mod Runs
 pub mod worked
-pub mod further
 pub mod wrong

@@ -32,37 +32,6 @@ ghost use Rattle.em_histories.specs.worked.QueueDisabledAndEnabled as queue_disa
 ghost use Rattle.em_histories.specs.worked.HandleHeldByAnotherCore as handle_held_by_another_core;
 ghost use Rattle.em_histories.specs.worked.BurstOfTwo as burst_of_two;
 ghost use Rattle.em_histories.specs.worked.BurstGivenBackForAChange as burst_given_back_for_a_change;
-ghost use Rattle.em_histories.specs.further.BurstsUntakenAndCellsOfTwoContexts as bursts_untaken_and_cells_of_two_contexts;
-ghost use Rattle.em_histories.specs.further.ClosedQueuesOpenAgain as closed_queues_open_again;
-ghost use Rattle.em_histories.specs.further.ErrorBodiesEverywhere as error_bodies_everywhere;
-ghost use Rattle.em_histories.specs.further.ErrorBodiesOfOperations as error_bodies_of_operations;
-ghost use Rattle.em_histories.specs.further.EventGroupsAbortedAndIncremented as event_groups_aborted_and_incremented;
-ghost use Rattle.em_histories.specs.further.EventsLostAtEndsOfAllContexts as events_lost_at_ends_of_all_contexts;
-ghost use Rattle.em_histories.specs.further.EveryFaultOfAHandle as every_fault_of_a_handle;
-ghost use Rattle.em_histories.specs.further.EveryWrongKind as every_wrong_kind;
-ghost use Rattle.em_histories.specs.further.Expressions as expressions;
-ghost use Rattle.em_histories.specs.further.FailedStartAndThenAGoodOne as failed_start_and_then_a_good_one;
-ghost use Rattle.em_histories.specs.further.FailedStartOfTheSecondObject as failed_start_of_the_second_object;
-ghost use Rattle.em_histories.specs.further.HandlesLostByAnEnd as handles_lost_by_an_end;
-ghost use Rattle.em_histories.specs.further.HeldSendOfAnIndexThatWentThereBefore as held_send_of_an_index_that_went_there_before;
-ghost use Rattle.em_histories.specs.further.HeldSendsIntoClosedQueuesAndGroups as held_sends_into_closed_queues_and_groups;
-ghost use Rattle.em_histories.specs.further.HeldSendsOfTwoOrderedQueues as held_sends_of_two_ordered_queues;
-ghost use Rattle.em_histories.specs.further.KeptEventsOfTwoObjects as kept_events_of_two_objects;
-ghost use Rattle.em_histories.specs.further.LimitReachedInABurst as limit_reached_in_a_burst;
-ghost use Rattle.em_histories.specs.further.LocalQueuesOfTwoCores as local_queues_of_two_cores;
-ghost use Rattle.em_histories.specs.further.MembersOfAnAbortedApplication as members_of_an_aborted_application;
-ghost use Rattle.em_histories.specs.further.MixedFailedStartStampedLocalAndAtomic as mixed_failed_start_stamped_local_and_atomic;
-ghost use Rattle.em_histories.specs.further.MixedStartStopAndLostNotesWithBursts as mixed_start_stop_and_lost_notes_with_bursts;
-ghost use Rattle.em_histories.specs.further.MixedWithBurstsGivenBack as mixed_with_bursts_given_back;
-ghost use Rattle.em_histories.specs.further.ModifyOfTwoGroups as modify_of_two_groups;
-ghost use Rattle.em_histories.specs.further.NotesLostAtANotify as notes_lost_at_a_notify;
-ghost use Rattle.em_histories.specs.further.PoolsAndGenerations as pools_and_generations;
-ghost use Rattle.em_histories.specs.further.PrioritiesOfFiveQueues as priorities_of_five_queues;
-ghost use Rattle.em_histories.specs.further.QueuesPassedOverWhileAMaskGrows as queues_passed_over_while_a_mask_grows;
-ghost use Rattle.em_histories.specs.further.QueuesPassedOverWhileAMaskShrinks as queues_passed_over_while_a_mask_shrinks;
-ghost use Rattle.em_histories.specs.further.ReleasedByEarlyAndLateEnds as released_by_early_and_late_ends;
-ghost use Rattle.em_histories.specs.further.StepsOfTheLeastOperationFirst as steps_of_the_least_operation_first;
-ghost use Rattle.em_histories.specs.further.StopAndStartOfTwoObjectsOnThreeCores as stop_and_start_of_two_objects_on_three_cores;
 ghost use Rattle.em_histories.specs.wrong.ReleasedInTheWrongOrder as released_in_the_wrong_order;
 ghost use Rattle.em_histories.specs.wrong.ReleasedBeforeItsTicketIsTheFirst as released_before_its_ticket_is_the_first;
 ghost use Rattle.em_histories.specs.wrong.HeldSendThatNeverEnters as held_send_that_never_enters;
@@ -103,7 +72,7 @@ ghost use Rattle.em_histories.specs.wrong.ErrorBodySkipped as error_body_skipped
 ghost use Rattle.em_histories.specs.wrong.GlobalErrorBodyInPlaceOfTheObjects as global_error_body_in_place_of_the_objects;
 
 /// Each of these histories is legal, and ends as its subject wants: with nothing left to do, or at the limit on
-/// receives.
+/// receives. Together they have every kind of entry and of context, and every fault but that of too many operations.
 pub fn worked_histories()
     ensures one_event { IsLegalUntilQuiet one_event.run }
     ensures one_event_at_the_limit { IsLegalUntilQuiet one_event_at_the_limit.run }
@@ -134,42 +103,6 @@ pub fn worked_histories()
     ensures handle_held_by_another_core { IsLegalUntilQuiet handle_held_by_another_core.run }
     ensures burst_of_two { IsLegalUntilQuiet burst_of_two.run }
     ensures burst_given_back_for_a_change { IsLegalUntilQuiet burst_given_back_for_a_change.run }
-{}
-
-/// So is each of these, which are longer, and together have every kind of entry and of context, every fault but that of
-/// too many operations, and more than one object, queue, pool, queue group and event group.
-pub fn further_histories()
-    ensures bursts_untaken_and_cells_of_two_contexts { IsLegalUntilQuiet bursts_untaken_and_cells_of_two_contexts.run }
-    ensures closed_queues_open_again { IsLegalUntilQuiet closed_queues_open_again.run }
-    ensures error_bodies_everywhere { IsLegalUntilQuiet error_bodies_everywhere.run }
-    ensures error_bodies_of_operations { IsLegalUntilQuiet error_bodies_of_operations.run }
-    ensures event_groups_aborted_and_incremented { IsLegalUntilQuiet event_groups_aborted_and_incremented.run }
-    ensures events_lost_at_ends_of_all_contexts { IsLegalUntilQuiet events_lost_at_ends_of_all_contexts.run }
-    ensures every_fault_of_a_handle { IsLegalUntilQuiet every_fault_of_a_handle.run }
-    ensures every_wrong_kind { IsLegalUntilQuiet every_wrong_kind.run }
-    ensures expressions { IsLegalUntilQuiet expressions.run }
-    ensures failed_start_and_then_a_good_one { IsLegalUntilQuiet failed_start_and_then_a_good_one.run }
-    ensures failed_start_of_the_second_object { IsLegalUntilQuiet failed_start_of_the_second_object.run }
-    ensures handles_lost_by_an_end { IsLegalUntilQuiet handles_lost_by_an_end.run }
-    ensures held_send_of_an_index_that_went_there_before { IsLegalUntilQuiet held_send_of_an_index_that_went_there_before.run }
-    ensures held_sends_into_closed_queues_and_groups { IsLegalUntilQuiet held_sends_into_closed_queues_and_groups.run }
-    ensures held_sends_of_two_ordered_queues { IsLegalUntilQuiet held_sends_of_two_ordered_queues.run }
-    ensures kept_events_of_two_objects { IsLegalUntilQuiet kept_events_of_two_objects.run }
-    ensures limit_reached_in_a_burst { IsLegalUntilLimit limit_reached_in_a_burst.run }
-    ensures local_queues_of_two_cores { IsLegalUntilLimit local_queues_of_two_cores.run }
-    ensures members_of_an_aborted_application { IsLegalUntilQuiet members_of_an_aborted_application.run }
-    ensures mixed_failed_start_stamped_local_and_atomic { IsLegalUntilQuiet mixed_failed_start_stamped_local_and_atomic.run }
-    ensures mixed_start_stop_and_lost_notes_with_bursts { IsLegalUntilQuiet mixed_start_stop_and_lost_notes_with_bursts.run }
-    ensures mixed_with_bursts_given_back { IsLegalUntilQuiet mixed_with_bursts_given_back.run }
-    ensures modify_of_two_groups { IsLegalUntilLimit modify_of_two_groups.run }
-    ensures notes_lost_at_a_notify { IsLegalUntilQuiet notes_lost_at_a_notify.run }
-    ensures pools_and_generations { IsLegalUntilQuiet pools_and_generations.run }
-    ensures priorities_of_five_queues { IsLegalUntilQuiet priorities_of_five_queues.run }
-    ensures queues_passed_over_while_a_mask_grows { IsLegalUntilQuiet queues_passed_over_while_a_mask_grows.run }
-    ensures queues_passed_over_while_a_mask_shrinks { IsLegalUntilQuiet queues_passed_over_while_a_mask_shrinks.run }
-    ensures released_by_early_and_late_ends { IsLegalUntilLimit released_by_early_and_late_ends.run }
-    ensures steps_of_the_least_operation_first { IsLegalUntilQuiet steps_of_the_least_operation_first.run }
-    ensures stop_and_start_of_two_objects_on_three_cores { IsLegalUntilQuiet stop_and_start_of_two_objects_on_three_cores.run }
 {}
 
 /// Each of these histories is wrong at one place, under the graph and the limits of a history above: the entries
