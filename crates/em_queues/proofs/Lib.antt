@@ -1,0 +1,10 @@
+pub mod BitLemmas
+pub mod SetLemmas
+pub mod WaitingLemmas
+pub mod WholeLemmas
+pub mod ListChanges
+pub mod Stands
+pub mod Calls
+pub mod Opening
+pub mod Restoration
+pub mod BestQueues
