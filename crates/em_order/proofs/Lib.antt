@@ -1,0 +1,11 @@
+pub mod NextOpen
+pub mod Runs
+pub mod HeldUp
+pub mod Readings
+pub mod Sends
+pub mod Draws
+pub mod TicketEnds
+pub mod Finishes
+pub mod Releases
+pub mod Opening
+pub mod WholeLemmas
