@@ -1,0 +1,10 @@
+pub mod Lists
+pub mod Gone
+pub mod Arrivals
+pub mod Released
+pub mod Entered
+pub mod Tallies
+pub mod Payments
+pub mod Outputs
+pub mod Paid
+pub mod Pending

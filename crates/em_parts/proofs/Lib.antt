@@ -1,0 +1,6 @@
+pub mod StepLemmas
+pub mod Mintings
+pub mod Holdings
+pub mod Spendings
+pub mod Unspent
+pub mod QueueLists

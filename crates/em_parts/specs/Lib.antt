@@ -1,0 +1,4 @@
+pub mod PoolSteps
+pub mod PoolAlike
+pub mod QueueSteps
+pub mod QueueAlike

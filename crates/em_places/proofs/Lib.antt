@@ -1,0 +1,13 @@
+pub mod Moves
+pub mod Unmoved
+pub mod FreeAfter
+pub mod Minting
+pub mod Taking
+pub mod Spending
+pub mod Notes
+pub mod Ends
+pub mod SpentHandles
+pub mod Entries
+pub mod Parked
+pub mod FreeIndices
+pub mod Frees
