@@ -9,6 +9,10 @@ pub mod Several
 pub mod Parts
 pub mod WhatLaws
 pub mod Spacing
+pub mod Fits
 pub mod Appending
+pub mod PlainForms
 pub mod LineLaws
 pub mod TextLaws
+pub mod FirstEntries
+pub mod Refusals

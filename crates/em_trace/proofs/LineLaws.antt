@@ -19,6 +19,7 @@ use Rattle.em_trace.proofs.Forms.{IsPlain, well_rest, IsForm, Nothing}
 use Rattle.em_trace.proofs.Numbers.{decimal-differs-with}
 use Rattle.em_trace.proofs.Parts.{then-law, u64-law}
 use Rattle.em_trace.proofs.WhatLaws.{entry-law}
+use Rattle.em_trace.proofs.PlainForms.{line-plain}
 
 -- ---- pieces and what they are pieces of
 
@@ -160,7 +161,7 @@ above-spaced : (tokens : List (List ℕ)) → AllByRecursion IsPlain tokens → 
 above-spaced [] h = tt
 above-spaced (t ∷ ts) h = (omega arith, above-append 10 t (spaced ts) (above-lower t h.0) (above-spaced ts h.1))
 
-pub above-line : (place : ℕ) (entry : Entry) → IsU64 place → EntryFits entry → Above 10 (joined (line_tokens place entry))
-above-line place entry p fits =
-    let plain = placed-law.plain (place, entry) (p, fits) in
+pub above-line : (place : ℕ) (entry : Entry) → Above 10 (joined (line_tokens place entry))
+above-line place entry =
+    let plain = line-plain place entry in
     above-append 10 (decimal place) (spaced (entry_form.write entry)) (above-lower (decimal place) plain.0) (above-spaced (entry_form.write entry) plain.1)

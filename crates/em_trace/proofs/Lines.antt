@@ -61,7 +61,7 @@ behind-nothing (Err refusal) = refl
 pub lines_begin : (number place : ℕ) (ps : List (List ℕ)) → behind [] (found_from number place ps) ≡ found_from number place ps
 lines_begin number place ps = behind-nothing (found_from number place ps)
 
-head-more : (head : List ℕ) (ps : List (List ℕ)) → has_none ps ≡ false → found_behind (head ∷ ps) ≡ cond (bytes_eq head head_word) (found_from 2 0 ps) (Err (1, 1))
+pub head-more : (head : List ℕ) (ps : List (List ℕ)) → has_none ps ≡ false → found_behind (head ∷ ps) ≡ cond (bytes_eq head head_word) (found_from 2 0 ps) (Err (1, 1))
 head-more head [] h = absurd cc
 head-more head (p ∷ ps) h = refl
 

@@ -18,7 +18,7 @@ use Rattle.em_trace.proofs.LineLaws.{Above, pieces-then, behind_each, joined_by,
 found-is : (x y : List Entry × EndKind) → ◌≡◌ {A = Found} (Ok x) (Ok y) → x ≡ y
 found-is x y e = cc
 
-end-above : (end : EndKind) → Above 10 (end_word end)
+pub end-above : (end : EndKind) → Above 10 (end_word end)
 end-above Quiet = search arith
 end-above Limit = search arith
 
@@ -34,7 +34,7 @@ found-line : (number place : ℕ) (entry : Entry) (rest : List ℕ) (h : List En
 unfolding line
 found-line number place entry rest h end p fits more =
     let text-is : (joined (line_tokens place entry) ++ 10 ∷ []) ++ rest ≡ joined (line_tokens place entry) ++ 10 ∷ rest = append_assoc (joined (line_tokens place entry)) (10 ∷ []) rest in
-    let ps : pieces 10 ((joined (line_tokens place entry) ++ 10 ∷ []) ++ rest) ≡ joined (line_tokens place entry) ∷ pieces 10 rest = ap (λ t. pieces 10 t) text-is ∙ pieces-then 10 (joined (line_tokens place entry)) rest (above-line place entry p fits) in
+    let ps : pieces 10 ((joined (line_tokens place entry) ++ 10 ∷ []) ++ rest) ≡ joined (line_tokens place entry) ∷ pieces 10 rest = ap (λ t. pieces 10 t) text-is ∙ pieces-then 10 (joined (line_tokens place entry)) rest (above-line place entry) in
     ap (λ ps. found_from number place ps) ps ∙ found_from_more number place (joined (line_tokens place entry)) rest ∙ rw (judge-entry place entry p fits, more) refl
 
 found-again : (h : List Entry) (end : EndKind) (number place : ℕ) → AllByRecursion EntryFits h → place + length h ≤ 2 ^ 64 → found_from number place (pieces 10 (lines_from place h ++ (end_word end ++ 10 ∷ []))) ≡ Ok (h, end)

@@ -5,3 +5,4 @@ pub mod Text
 pub mod Reading
 pub mod Traces
 pub mod Fitting
+pub mod FirstLines

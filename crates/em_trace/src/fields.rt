@@ -1,5 +1,7 @@
 //! The fields of a line, written from left to right, each token after a space.
 ghost use Rattle.std.specs.Prelude.{◌≡◌, ◌≤◌, ◌+◌, ◌*◌, ◌∷◌, ◌++◌, [], length, take, decimal, codes, flat_map};
+ghost use Rattle.std.specs.List.{AllByRecursion};
+ghost use Rattle.em_trace.specs.Fitting.{IsU8, IsU16, IsU32, IsU64, AreWords, EventFits, StampFits, NoteFits, AreNotes, CellsFit, BodyFits, JobFits, FaultFits, OptionFits};
 ghost use Rattle.em_trace.specs.Line.{spaced};
 ghost use Rattle.em_trace.specs.Forms.{word_of_call, core_form, group_form, body_form, queue_form, pool_form, handle_form, egroup_form, eo_form, op_form, event_form, received_form, content_form, words_form, stamp_form, stamped_form, ticket_form, notes_form, note_form, cells_form, some_cells_form, eight_form, outcome_form, job_form, scope_form, fault_form, call_form, u64_form, numbers_of_fault, number_of_kind, number_of_state};
 
@@ -13,6 +15,7 @@ pub(crate) fn core(line: &mut Text, id: CoreId)
     requires { length line.old + 22 ≤ 640 }
     ensures text { line.new ≡ line.old ++ spaced (core_form.write id) }
     ensures length { length line.new ≤ length line.old + 22 }
+    ensures fits { IsU8 id.0 }
 {
     line.marked(b'c', u64::from(id.0));
 }
@@ -21,6 +24,7 @@ pub(crate) fn queue(line: &mut Text, id: QueueId)
     requires { length line.old + 22 ≤ 640 }
     ensures text { line.new ≡ line.old ++ spaced (queue_form.write id) }
     ensures length { length line.new ≤ length line.old + 22 }
+    ensures fits { IsU16 id.0 }
 {
     line.marked(b'q', u64::from(id.0));
 }
@@ -29,6 +33,7 @@ pub(crate) fn pool(line: &mut Text, id: PoolId)
     requires { length line.old + 22 ≤ 640 }
     ensures text { line.new ≡ line.old ++ spaced (pool_form.write id) }
     ensures length { length line.new ≤ length line.old + 22 }
+    ensures fits { IsU8 id.0 }
 {
     line.marked(b'p', u64::from(id.0));
 }
@@ -37,6 +42,7 @@ pub(crate) fn event_group(line: &mut Text, id: EventGroupId)
     requires { length line.old + 22 ≤ 640 }
     ensures text { line.new ≡ line.old ++ spaced (egroup_form.write id) }
     ensures length { length line.new ≤ length line.old + 22 }
+    ensures fits { IsU8 id.0 }
 {
     line.marked(b'e', u64::from(id.0));
 }
@@ -45,6 +51,7 @@ pub(crate) fn eo(line: &mut Text, id: EoId)
     requires { length line.old + 22 ≤ 640 }
     ensures text { line.new ≡ line.old ++ spaced (eo_form.write id) }
     ensures length { length line.new ≤ length line.old + 22 }
+    ensures fits { IsU8 id.0 }
 {
     line.marked(b'o', u64::from(id.0));
 }
@@ -53,6 +60,7 @@ pub(crate) fn group(line: &mut Text, id: GroupId)
     requires { length line.old + 22 ≤ 640 }
     ensures text { line.new ≡ line.old ++ spaced (group_form.write id) }
     ensures length { length line.new ≤ length line.old + 22 }
+    ensures fits { IsU8 id.0 }
 {
     line.marked(b'g', u64::from(id.0));
 }
@@ -61,6 +69,7 @@ pub(crate) fn op(line: &mut Text, id: OpId)
     requires { length line.old + 22 ≤ 640 }
     ensures text { line.new ≡ line.old ++ spaced (op_form.write id) }
     ensures length { length line.new ≤ length line.old + 22 }
+    ensures fits { IsU16 id.0 }
 {
     line.number(u64::from(id.0));
 }
@@ -69,6 +78,7 @@ pub(crate) fn handle(line: &mut Text, id: Handle)
     requires { length line.old + 22 ≤ 640 }
     ensures text { line.new ≡ line.old ++ spaced (handle_form.write id) }
     ensures length { length line.new ≤ length line.old + 22 }
+    ensures fits { IsU64 id.0 }
 {
     line.number(id.0);
 }
@@ -77,6 +87,7 @@ pub(crate) fn ticket(line: &mut Text, ticket: Option<u32>)
     requires { length line.old + 34 ≤ 640 }
     ensures text { line.new ≡ line.old ++ spaced (ticket_form.write ticket) }
     ensures length { length line.new ≤ length line.old + 34 }
+    ensures fits { OptionFits IsU32 ticket }
 {
     if let Some(ticket) = ticket {
         line.word("ticket");
@@ -88,6 +99,7 @@ fn stamp(line: &mut Text, stamp: Stamp)
     requires { length line.old + 44 ≤ 640 }
     ensures text { line.new ≡ line.old ++ spaced (stamp_form.write stamp) }
     ensures length { length line.new ≤ length line.old + 44 }
+    ensures fits { StampFits stamp }
 {
     event_group(line, stamp.group);
     line.number(u64::from(stamp.app));
@@ -97,6 +109,7 @@ pub(crate) fn stamped(line: &mut Text, stamped: Option<Stamp>)
     requires { length line.old + 56 ≤ 640 }
     ensures text { line.new ≡ line.old ++ spaced (stamped_form.write stamped) }
     ensures length { length line.new ≤ length line.old + 56 }
+    ensures fits { OptionFits StampFits stamped }
 {
     if let Some(under) = stamped {
         line.word("stamp");
@@ -108,6 +121,7 @@ fn numbers(line: &mut Text, numbers: &[u64])
     requires { length line.old + 22 * length numbers.now ≤ 640 }
     ensures text { line.new ≡ line.old ++ spaced (flat_map u64_form.write numbers.now) }
     ensures length { length line.new ≤ length line.old + 22 * length numbers.now }
+    ensures fits { AllByRecursion IsU64 numbers.now }
 {
     for number in numbers {
         line.number(*number);
@@ -119,6 +133,7 @@ fn words(line: &mut Text, words: &[u64])
     requires room { length line.old + 386 ≤ 640 }
     ensures text { line.new ≡ line.old ++ spaced (words_form.write words.now) }
     ensures length { length line.new ≤ length line.old + 386 }
+    ensures fits { AreWords words.now }
 {
     line.word("words");
     line.number(words.len() as u64);
@@ -129,6 +144,7 @@ pub(crate) fn content(line: &mut Text, kind: u32, words: &Words)
     requires { length line.old + 420 ≤ 640 }
     ensures text { line.new ≡ line.old ++ spaced (content_form.write (kind, words.now)) }
     ensures length { length line.new ≤ length line.old + 420 }
+    ensures fits { IsU32 kind × AreWords words.now }
 {
     line.word("kind");
     line.number(u64::from(kind));
@@ -139,6 +155,7 @@ pub(crate) fn event(line: &mut Text, event: &Event)
     requires { length line.old + 442 ≤ 640 }
     ensures text { line.new ≡ line.old ++ spaced (event_form.write event.now) }
     ensures length { length line.new ≤ length line.old + 442 }
+    ensures fits { EventFits event.now }
 {
     handle(line, event.handle);
     content(line, event.kind, &event.words);
@@ -148,6 +165,7 @@ pub(crate) fn received(line: &mut Text, received: &Option<Event>)
     requires { length line.old + 442 ≤ 640 }
     ensures text { line.new ≡ line.old ++ spaced (received_form.write received.now) }
     ensures length { length line.new ≤ length line.old + 442 }
+    ensures fits { OptionFits EventFits received.now }
 {
     match received {
         None => line.word("none"),
@@ -159,6 +177,7 @@ fn note(line: &mut Text, note: Note)
     requires { length line.old + 44 ≤ 640 }
     ensures text { line.new ≡ line.old ++ spaced (note_form.write note) }
     ensures length { length line.new ≤ length line.old + 44 }
+    ensures fits { NoteFits note }
 {
     line.number(note.word);
     queue(line, note.queue);
@@ -168,6 +187,7 @@ fn each_note(line: &mut Text, notes: &[Note])
     requires { length line.old + 44 * length notes.now ≤ 640 }
     ensures text { line.new ≡ line.old ++ spaced (flat_map note_form.write notes.now) }
     ensures length { length line.new ≤ length line.old + 44 * length notes.now }
+    ensures fits { AllByRecursion NoteFits notes.now }
 {
     for each in notes {
         note(line, *each);
@@ -179,6 +199,7 @@ pub(crate) fn notes(line: &mut Text, notes: &[Note])
     requires room { length line.old + 386 ≤ 640 }
     ensures text { line.new ≡ line.old ++ spaced (notes_form.write notes.now) }
     ensures length { length line.new ≤ length line.old + 386 }
+    ensures fits { AreNotes notes.now }
 {
     line.word("notes");
     line.number(notes.len() as u64);
@@ -189,6 +210,7 @@ fn eight(line: &mut Text, cells: &Cells)
     requires { length line.old + 176 ≤ 640 }
     ensures text { line.new ≡ line.old ++ spaced (eight_form.write cells.now) }
     ensures length { length line.new ≤ length line.old + 176 }
+    ensures fits { CellsFit cells.now }
 {
     numbers(line, &cells.0);
 }
@@ -197,6 +219,7 @@ pub(crate) fn cells(line: &mut Text, cells: &Cells)
     requires { length line.old + 188 ≤ 640 }
     ensures text { line.new ≡ line.old ++ spaced (cells_form.write cells.now) }
     ensures length { length line.new ≤ length line.old + 188 }
+    ensures fits { CellsFit cells.now }
 {
     line.word("cells");
     eight(line, cells);
@@ -206,6 +229,7 @@ pub(crate) fn some_cells(line: &mut Text, cells: &Option<Cells>)
     requires { length line.old + 188 ≤ 640 }
     ensures text { line.new ≡ line.old ++ spaced (some_cells_form.write cells.now) }
     ensures length { length line.new ≤ length line.old + 188 }
+    ensures fits { OptionFits CellsFit cells.now }
 {
     if let Some(cells) = cells {
         line.word("cells");
@@ -225,6 +249,7 @@ pub(crate) fn body(line: &mut Text, body: Body)
     requires { length line.old + 34 ≤ 640 }
     ensures text { line.new ≡ line.old ++ spaced (body_form.write body) }
     ensures length { length line.new ≤ length line.old + 34 }
+    ensures fits { BodyFits body }
 {
     match body {
         Body::Boot => line.word("boot"),
@@ -251,6 +276,7 @@ pub(crate) fn job(line: &mut Text, job: Begun)
     requires { length line.old + 56 ≤ 640 }
     ensures text { line.new ≡ line.old ++ spaced (job_form.write job) }
     ensures length { length line.new ≤ length line.old + 56 }
+    ensures fits { JobFits job }
 {
     match job {
         Begun::Start(id) => {
@@ -273,6 +299,7 @@ pub(crate) fn scope(line: &mut Text, scope: Option<EoId>)
     requires { length line.old + 22 ≤ 640 }
     ensures text { line.new ≡ line.old ++ spaced (scope_form.write scope) }
     ensures length { length line.new ≤ length line.old + 22 }
+    ensures fits { OptionFits (λ eo. IsU8 eo.0) scope }
 {
     match scope {
         None => line.word("global"),
@@ -371,6 +398,7 @@ pub(crate) fn fault(line: &mut Text, fault: Fault)
     requires { length line.old + 44 ≤ 640 }
     ensures text { line.new ≡ line.old ++ spaced (fault_form.write fault) }
     ensures length { length line.new ≤ length line.old + 44 }
+    ensures fits { FaultFits fault }
 {
     let (number, detail) = numbers_of(fault);
     line.number(number);

@@ -13,5 +13,7 @@ mod text;
 mod writing;
 
 pub use history::{Trace, TraceEnd, read_history};
-pub use laws::{reading_undoes_writing, texts_differ};
+pub use laws::{
+    reading_undoes_writing, refused_by_first_lines, texts_differ, whole_lines_are_first_entries,
+};
 pub use writing::{write_entry, write_history};

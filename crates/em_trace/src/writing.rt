@@ -1,5 +1,6 @@
 //! Writing a history.
 ghost use Rattle.std.specs.Prelude.{◌≡◌, ◌≤◌, ◌+◌, ◌∷◌, ◌++◌, [], length, decimal, OnOk, OnErr, IsErrOf};
+ghost use Rattle.em_trace.specs.Fitting.{WhatFits, EntryFits, AreEntries};
 ghost use Rattle.em_trace.specs.Line.{spaced};
 ghost use Rattle.em_trace.specs.Forms.{what_tokens, entry_form};
 ghost use Rattle.em_trace.specs.Text.{line, text, head_word, end_word};
@@ -20,6 +21,7 @@ fn what(line: &mut Text, what: &What)
     requires { length line.old ≤ 42 }
     ensures text { line.new ≡ line.old ++ spaced (what_tokens what.now) }
     ensures length { length line.new ≤ 600 }
+    ensures fits { WhatFits what.now }
 {
     match what {
         What::Enter(about) => {
@@ -198,6 +200,7 @@ fn what(line: &mut Text, what: &What)
 fn line_of(place: u64, entry: &Entry) -> Text
     ensures text { result ≡ line place entry.now }
     ensures short { length (line place entry.now) ≤ 640 }
+    ensures fits { EntryFits entry.now }
 {
     let mut line = Text::new();
     line.digits(place);
@@ -225,6 +228,7 @@ pub fn write_entry<K: Sink>(sink: &mut K, place: u64, entry: &Entry) -> Result<(
     ensures part { OnErr result (AppendsPrefix (K.written sink.old) (K.written sink.new) (line place entry.now)) }
     ensures no_memory_none { IsErrOf result SinkEnd.NoMemory → K.written sink.new ≡ K.written sink.old }
     ensures short { length (line place entry.now) ≤ 640 }
+    ensures fits { EntryFits entry.now }
 
     ensures failed { IsErrOf result SinkEnd.Failed → HasRisen (K.faults sink.old) (K.faults sink.new) }
     ensures sound { ¬ IsErrOf result SinkEnd.Failed → K.faults sink.new ≡ K.faults sink.old }
@@ -246,6 +250,9 @@ fn end_line(end: EndKind) -> &'static str
 /// Writes the text of a history, its oldest entry first, and its end. After an answer that is not Ok nothing more is written.
 pub fn write_history<K: Sink>(sink: &mut K, log: &[Entry], end: EndKind) -> Result<(), SinkEnd>
     ensures whole { OnOk result (K.written sink.new ≡ append_known (K.written sink.old) (text log.now end)) }
+
+    // The numbers of what is written whole fit their types, so that no other such history has the text.
+    ensures fits { OnOk result (AreEntries log.now) }
 
     // A prefix of the text: its whole lines are those of the first entries.
     ensures part { OnErr result (AppendsPrefix (K.written sink.old) (K.written sink.new) (text log.now end)) }

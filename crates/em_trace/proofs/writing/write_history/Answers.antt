@@ -1,8 +1,10 @@
-use Rattle.std.proofs.Common.{◌≡◌, get_or, Result, Ok, Err, sym, ap, subst, ◌∙◌, rules}
+use Rattle.std.proofs.Common.{◌≡◌, get_or, Result, Ok, Err, sym, ap, subst, ◌∙◌, rules, arith}
 use Rattle.std.specs.Prelude.{OnOk, OnErr}
 use Rattle.std.specs.Io.KnownBytes.{append_known}
 use Rattle.em_io.specs.Sink.{AppendsPrefix}
+use Rattle.em_trace.specs.Fitting.{EntryFits, AreEntries}
 use Rattle.em_trace.specs.Text.{line}
+use Rattle.em_trace.proofs.Fits.{fits_more, fits_all}
 use Rattle.em_trace.proofs.Appending.{text_before, text_before_more, text_first, text_part, text_whole, text_last_part, text_before_none, appends_then}
 use Rattle.em_trace.proofs.writing.write_history.Goals as goal
 
@@ -21,6 +23,7 @@ pub loop-place-init : goal.loop-place-init
 loop-place-init g c = record {
   written = c.in_default.ensures.whole ∙ ap (λ t. append_known (g.K.Sink.written c.args.sink.now) t) (sym (text_before_none c.args.log.now));
   faults = search rules;
+  fits = tt;
 }
 
 pub returns-in-Err-write_entry-clause-part : goal.returns-in-Err-write_entry-clause-part
@@ -41,6 +44,7 @@ loop-place-preserved g c =
       written = appends_then (g.K.Sink.written c.args.sink.now) (g.K.Sink.written c.loop-place.sink) (g.K.Sink.written c.write_entry.new.sink) (text_before c.args.log.now c.loop-place.place) (line c.loop-place.place (get_or c.args.log.now c.loop-place.place e)) c.loop-place.invariant.written wrote
           ∙ ap (λ t. append_known (g.K.Sink.written c.args.sink.now) t) (sym (text_before_more c.args.log.now c.loop-place.place e c.loop-place-test.true));
       faults = search rules;
+      fits = fits_more EntryFits c.args.log.now c.loop-place.place e c.loop-place-test.true c.loop-place.invariant.fits (subst EntryFits c.index-log-place.is c.write_entry.ensures.fits);
     }
 
 pub returns-clause-whole : goal.returns-clause-whole
@@ -54,3 +58,12 @@ returns-clause-part g c =
     on_err c.put-2.result _ _ c.put-2.ensures.part
     (λ (h : AppendsPrefix (g.K.Sink.written c.loop-place.sink) (g.K.Sink.written c.put-2.new.sink) c.as_bytes.result.now). text_last_part c.args.log.now c.args.end c.loop-place.place (g.K.Sink.written c.args.sink.now) (g.K.Sink.written c.loop-place.sink) (g.K.Sink.written c.put-2.new.sink) c.loop-place-test.false c.loop-place.invariant.written
     (subst (λ t. AppendsPrefix (g.K.Sink.written c.loop-place.sink) (g.K.Sink.written c.put-2.new.sink) t) (c.as_bytes.ensures.value ∙ c.end_line.ensures) h))
+
+always : {A E : Type 0} (r : Result A E) (P : Type 0) → P → OnOk r P
+always (Ok x) P h = h
+always (Err x) P h = tt
+
+pub returns-clause-fits : goal.returns-clause-fits
+returns-clause-fits g c =
+    let entries = c.args.log.now in
+    always c.put-2.result (AreEntries entries) (omega arith, fits_all EntryFits entries c.loop-place.place c.loop-place-test.false c.loop-place.invariant.fits)
