@@ -77,3 +77,4 @@ pub mod ScriptsShown
 pub mod Shuffling
 pub mod BodiesShuffled
 pub mod AnyOrder
+pub mod Refusals
