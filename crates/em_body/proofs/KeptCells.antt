@@ -12,12 +12,9 @@ use Rattle.em_log.specs.declared.ids.Cells.{Cells}
 use Rattle.em_log.specs.declared.work.Move.{Move}
 use Rattle.em_log.specs.Bodies.{set_in, event_env, variable}
 use Rattle.em_log.specs.Expressions.{Env, value}
-use Rattle.em_log.specs.Lawful.{are_cells}
 use Rattle.em_log.specs.Works.{Exchange, Reached}
-use Rattle.em_body.specs.AskLaws.{HasEightCells}
 use Rattle.em_body.specs.Followed.{IsReached}
 use Rattle.em_body.specs.Standings.{Made, Standing, Does, Sets, Branches, Repeats, Writes, Asks, Moves, Ends, Goes, after_first, minted, done, answered, left_by, opening}
-use Rattle.em_body.proofs.PlainStatements.{AreEight}
 
 -- answers
 
@@ -72,25 +69,7 @@ module _ (P : Option (List ℕ) → Type 0) (none : P None) (write : (cells : Li
   reached-kept f c es s h (Reached.Answered _ past was _ a x before some fits leaves is) =
       subst P (sym (ap (λ t. t.env.cells) leaves)) (left-kept was.asking x was.env (reached-kept f c past was h before))
 
--- eight cells stay eight
-
-given-eight : (cells : Option Cells) → IsTrue (option_map_or are_cells cells true) → AreEight (option_map (λ cs. cs.0) cells)
-given-eight None h = tt
-given-eight (Some cells) h = eqb-true _ 8 h
-
-opening-eight : (core : ℕ) (c : Context) → HasEightCells c → AreEight (opening core c).cells
-opening-eight core Context.Boot h = tt
-opening-eight core (Context.Receive r) h = given-eight r.cells h
-opening-eight core (Context.GlobalStart op x) h = tt
-opening-eight core (Context.LocalStart op x) h = tt
-opening-eight core (Context.LocalStop op x) h = tt
-opening-eight core (Context.GlobalStop op x) h = tt
-
-pub reached-eight : (f : Made) (c : Context) (es : List Exchange) (s : Standing) → HasEightCells c → IsReached f c es s → AreEight s.env.cells
-reached-eight f c es s h r =
-    reached-kept AreEight tt (λ cells i n eight. length-set cells i n ∙ eight) f c es s (opening-eight f.core c h) r
-
--- and where a context comes with none there are none
+-- where a context comes with no cells there are none
 pub reached-without : (f : Made) (c : Context) (es : List Exchange) (s : Standing) → (opening f.core c).cells ≡ None → IsReached f c es s
     → s.env.cells ≡ None
 reached-without f c es s h r = reached-kept (λ cells. cells ≡ None) refl (λ cells i n some. absurd cc) f c es s h r

@@ -16,7 +16,7 @@ use Rattle.em_log.specs.Bodies.{ask_of, notes_in, zeros_or}
 use Rattle.em_log.specs.Contexts.{is_boot}
 use Rattle.em_log.specs.Declarations.{declarations_of, pool_shape, queue_shape, eo_shape, group_shape}
 use Rattle.em_log.specs.Expressions.{Env, value, values}
-use Rattle.em_log.specs.Lawful.{are_cells, is_boot_or_receive, is_declared, is_global_start, is_placed, is_queue, are_notes}
+use Rattle.em_log.specs.Lawful.{is_boot_or_receive, is_declared, is_global_start, is_placed, is_queue, have_queues}
 use Rattle.em_log.specs.WellFormed.{Where, is_statement, are_statements, is_plain, is_expression, are_expressions, is_empty_row, is_variable, is_queue_number, is_group_number, is_note, are_note_expressions, may_begin, may_fail, is_of_object}
 use Rattle.em_body.specs.Everywhere.{everywhere, everywhere_row, everywhere_in}
 use Rattle.em_body.specs.Standings.{does_ask, entry_of}
@@ -76,69 +76,48 @@ each-note g v (n ∷ ns) h =
     (queue-declared g n.1 b.1) (each-note g v ns a.1)
 
 notes-declared : (g : Config) (v : Env) (ns : List (Expr × QueueId)) → IsTrue (are_note_expressions g ns)
-    → IsTrue (are_notes (declarations_of g) (notes_in ns v))
-notes-declared g v ns h =
-    let a = and_parts (nat_le (length ns) 8) (list_all (is_note g) ns) h in
-    and_from (nat_le (length (notes_in ns v)) 8) (list_all (λ m. is_queue (declarations_of g) m.queue.0) (notes_in ns v))
-    (subst (λ m. IsTrue (nat_le m 8)) (sym (length-notes ns v)) a.0) (each-note g v ns a.1)
+    → IsTrue (have_queues (declarations_of g) (notes_in ns v))
+notes-declared g v ns h = each-note g v ns (and_parts (nat_le (length ns) 8) (list_all (is_note g) ns) h).1
 
-length-values : (es : List Expr) (v : Env) → length (values es v) ≡ length es
-length-values [] v = refl
-length-values (e ∷ es) v = ap suc (length-values es v)
-
--- the cells of an environment, where there are some, are eight
-abbrev pub AreEight : Option (List ℕ) → Type 0
-AreEight None = Unit {0}
-AreEight (Some cells) = length cells ≡ 8
-
-cells-declared : (cells : Option (List ℕ)) → AreEight cells → IsTrue (are_cells (zeros_or cells))
-cells-declared None eight = refl
-cells-declared (Some cells) eight = subst (λ n. IsTrue (nat_eq n 8)) (sym eight) refl
-
-pub ask-declared : (g : Config) (w : Where) (s : Stmt) (v : Env) → IsTrue (is_plain g w s) → IsTrue (does_ask s v) → AreEight v.cells
+pub ask-declared : (g : Config) (w : Where) (s : Stmt) (v : Env) → IsTrue (is_plain g w s) → IsTrue (does_ask s v)
     → IsTrue (is_declared (declarations_of g) (ask_of s v))
-ask-declared g w (Stmt.Set i e) v fits does eight = absurd (cc does)
-ask-declared g w (Stmt.If' t _ first _ second b) v fits does eight = absurd (cc does)
-ask-declared g w (Stmt.Repeat' n _ block) v fits does eight = absurd (cc does)
-ask-declared g w (Stmt.Alloc i p e es) v fits does eight =
+ask-declared g w (Stmt.Set i e) v fits does = absurd (cc does)
+ask-declared g w (Stmt.If' t _ first _ second b) v fits does = absurd (cc does)
+ask-declared g w (Stmt.Repeat' n _ block) v fits does = absurd (cc does)
+ask-declared g w (Stmt.Alloc i p e es) v fits does =
     let a = and_parts (is_variable i && nat_lt p.0 (length g.pools) && is_expression e && nat_le (length es) 16) (are_expressions es) fits in
     let b = and_parts (is_variable i && nat_lt p.0 (length g.pools) && is_expression e) (nat_le (length es) 16) a.0 in
     let c = and_parts (is_variable i && nat_lt p.0 (length g.pools)) (is_expression e) b.0 in
-    let pool = mapped-below p.0 pool_shape g.pools (and_parts (is_variable i) (nat_lt p.0 (length g.pools)) c.0).1 in
-    let kind : IsTrue (nat_lt (value e v % 2 ^ 32) (2 ^ 32)) = lt-ltb (value e v % 2 ^ 32) (2 ^ 32) (mod_below (value e v) (2 ^ 32) (omega arith)) in
-    let words : IsTrue (nat_le (length (values es v)) 16) = subst (λ m. IsTrue (nat_le m 16)) (sym (length-values es v)) b.1 in
-    and_from (nat_lt p.0 (length (map pool_shape g.pools)) && nat_lt (value e v % 2 ^ 32) (2 ^ 32)) (nat_le (length (values es v)) 16)
-    (and_from (nat_lt p.0 (length (map pool_shape g.pools))) (nat_lt (value e v % 2 ^ 32) (2 ^ 32)) pool kind) words
-ask-declared g w (Stmt.Send e q) v fits does eight =
+    mapped-below p.0 pool_shape g.pools (and_parts (is_variable i) (nat_lt p.0 (length g.pools)) c.0).1
+ask-declared g w (Stmt.Send e q) v fits does =
     and_from (is_queue (declarations_of g) q.0) true (queue-declared g q (and_parts (is_expression e) (is_queue_number g q) fits).1) refl
-ask-declared g w (Stmt.SendG e q n) v fits does eight =
+ask-declared g w (Stmt.SendG e q n) v fits does =
     let a = and_parts (is_expression e && is_queue_number g q) (nat_lt n.0 (length g.egroups)) fits in
     and_from (is_queue (declarations_of g) q.0) (nat_lt n.0 (length g.egroups))
     (queue-declared g q (and_parts (is_expression e) (is_queue_number g q) a.0).1) a.1
-ask-declared g w (Stmt.Dequeue i q) v fits does eight = queue-declared g q (and_parts (is_variable i) (is_queue_number g q) fits).1
-ask-declared g w (Stmt.Enable q) v fits does eight = queue-declared g q fits
-ask-declared g w (Stmt.Disable q) v fits does eight = queue-declared g q fits
-ask-declared g w Stmt.EndAtomic v fits does eight = cells-declared v.cells eight
-ask-declared g w (Stmt.Apply n e ns) v fits does eight =
+ask-declared g w (Stmt.Dequeue i q) v fits does = queue-declared g q (and_parts (is_variable i) (is_queue_number g q) fits).1
+ask-declared g w (Stmt.Enable q) v fits does = queue-declared g q fits
+ask-declared g w (Stmt.Disable q) v fits does = queue-declared g q fits
+ask-declared g w (Stmt.Apply n e ns) v fits does =
     let a = and_parts (nat_lt n.0 (length g.egroups) && is_expression e) (are_note_expressions g ns) fits in
-    and_from (nat_lt n.0 (length g.egroups)) (are_notes (declarations_of g) (notes_in ns v))
+    and_from (nat_lt n.0 (length g.egroups)) (have_queues (declarations_of g) (notes_in ns v))
     (and_parts (nat_lt n.0 (length g.egroups)) (is_expression e) a.0).0 (notes-declared g v ns a.1)
-ask-declared g w (Stmt.Abort n) v fits does eight = fits
-ask-declared g w (Stmt.Start x ns) v fits does eight =
+ask-declared g w (Stmt.Abort n) v fits does = fits
+ask-declared g w (Stmt.Start x ns) v fits does =
     let a = and_parts (may_begin w && nat_lt x.0 (length g.eos)) (are_note_expressions g ns) fits in
-    and_from (nat_lt x.0 (length (map eo_shape g.eos))) (are_notes (declarations_of g) (notes_in ns v))
+    and_from (nat_lt x.0 (length (map eo_shape g.eos))) (have_queues (declarations_of g) (notes_in ns v))
     (mapped-below x.0 eo_shape g.eos (and_parts (may_begin w) (nat_lt x.0 (length g.eos)) a.0).1) (notes-declared g v ns a.1)
-ask-declared g w (Stmt.Stop x ns) v fits does eight =
+ask-declared g w (Stmt.Stop x ns) v fits does =
     let a = and_parts (may_begin w && nat_lt x.0 (length g.eos)) (are_note_expressions g ns) fits in
-    and_from (nat_lt x.0 (length (map eo_shape g.eos))) (are_notes (declarations_of g) (notes_in ns v))
+    and_from (nat_lt x.0 (length (map eo_shape g.eos))) (have_queues (declarations_of g) (notes_in ns v))
     (mapped-below x.0 eo_shape g.eos (and_parts (may_begin w) (nat_lt x.0 (length g.eos)) a.0).1) (notes-declared g v ns a.1)
-ask-declared g w (Stmt.Modify n e ns) v fits does eight =
+ask-declared g w (Stmt.Modify n e ns) v fits does =
     let a = and_parts (may_begin w && is_group_number g n && is_expression e) (are_note_expressions g ns) fits in
     let b = and_parts (may_begin w && is_group_number g n) (is_expression e) a.0 in
     let c = (and_parts (may_begin w) (is_group_number g n) b.0).1 in
-    and_from (nat_le n.0 (length (map group_shape g.groups))) (are_notes (declarations_of g) (notes_in ns v))
+    and_from (nat_le n.0 (length (map group_shape g.groups))) (have_queues (declarations_of g) (notes_in ns v))
     (subst (λ m. IsTrue (nat_le n.0 m)) (sym (length-map g.groups group_shape)) c) (notes-declared g v ns a.1)
-ask-declared g w s v fits does eight = refl
+ask-declared g w s v fits does = refl
 
 -- where an ask may stand
 

@@ -1,6 +1,5 @@
 -- What is known of each ask of a body: the statement that it is of, and that it may stand in its context.
 use Rattle.std.specs.Prelude.{ℕ, ◌≡◌, Bool, true, List, Option, Some, None, IsTrue}
-use Rattle.std.specs.Option.{option_map_or}
 use Rattle.em_log.specs.declared.ask.Ask.{Ask}
 use Rattle.em_log.specs.declared.ask.Context.{Context}
 use Rattle.em_log.specs.declared.body.Stmt.{Stmt}
@@ -8,7 +7,7 @@ use Rattle.em_log.specs.declared.graph.Config.{Config}
 use Rattle.em_log.specs.Bodies.{ask_of}
 use Rattle.em_log.specs.Declarations.{declarations_of}
 use Rattle.em_log.specs.Expressions.{Env}
-use Rattle.em_log.specs.Lawful.{are_cells, is_declared, is_placed}
+use Rattle.em_log.specs.Lawful.{is_declared, is_placed}
 use Rattle.em_log.specs.WellFormed.{IsWellFormed}
 use Rattle.em_log.specs.Works.{Exchange}
 use Rattle.em_body.specs.Everywhere.{everywhere_in}
@@ -28,11 +27,6 @@ abbrev pub AsksAreOfStatements : Type 0
 AsksAreOfStatements = (p : Stmt → Bool) (f : Made) (c : Context) (es : List Exchange) (s : Standing) → IsReached f c es s
     → IsTrue (everywhere_in p (body_of f.graph c)) → (a : Ask) → unanswered s ≡ Some a → IsAskOf p a s.env
 
--- the cells that a receive brings are eight
-abbrev pub HasEightCells : Context → Type 0
-HasEightCells (Context.Receive r) = IsTrue (option_map_or are_cells r.cells true)
-HasEightCells c = Unit {0}
-
 -- what the ask names is declared, and the ask may stand in the context, which holds an atomic context only where the
 -- environment has cells
 pub record MayStand (g : Config) (c : Context) (v : Env) (a : Ask) : Type 0 where
@@ -41,7 +35,7 @@ pub record MayStand (g : Config) (c : Context) (v : Env) (a : Ask) : Type 0 wher
 
 -- in a well-formed graph each ask may stand in its context
 abbrev pub AsksMayStand : Type 0
-AsksMayStand = (f : Made) → IsWellFormed f.graph → (c : Context) → HasEightCells c → (es : List Exchange) (s : Standing)
+AsksMayStand = (f : Made) → IsWellFormed f.graph → (c : Context) (es : List Exchange) (s : Standing)
     → IsReached f c es s → (a : Ask) → unanswered s ≡ Some a → MayStand f.graph c s.env a
 
 -- cells come with a context, or not at all

@@ -46,8 +46,7 @@ pub fn asks_are_of_statements()
     ensures { AsksAreOfStatements }
 {}
 
-/// In a well-formed graph each ask of a context may stand in it, and all that the ask names is declared, where the cells
-/// that the context brings, if any, are eight.
+/// In a well-formed graph each ask of a context may stand in it, and all that the ask names is declared.
 pub fn asks_may_stand()
     ensures { AsksMayStand }
 {}

@@ -18,8 +18,8 @@ use Rattle.em_log.specs.Arrivals.{Item, item_of, item, is_for, entering, with_it
 use Rattle.em_log.specs.Places.{gone, gone_after, waiting, taken, has_item}
 use Rattle.em_log.specs.Lawful.{Allowed, AllAllowed}
 use Rattle.em_log.specs.Laws.{handles_of}
-use Rattle.em_log.proofs.Choices.{IsReady}
-use Rattle.em_log.proofs.Moments.{Moment, allowed-moment}
+use Rattle.em_moments.proofs.Choices.{IsReady}
+use Rattle.em_moments.proofs.Moments.{Moment, allowed-moment}
 use Rattle.em_laws.proofs.Cores.{Compared, Same, Other, compared, if-own, some-inj}
 use Rattle.em_laws.proofs.Served.{cons-some}
 use Rattle.em_laws.proofs.Lists.{grows-by, for-queue, waiting-for}

@@ -11,7 +11,7 @@ use Rattle.em_log.specs.Arrivals.{Item, is_for, entering, arrivals}
 use Rattle.em_log.specs.Places.{gone, gone_after, waiting}
 use Rattle.em_log.specs.Leads.{dequeued}
 use Rattle.em_log.specs.Lawful.{AllAllowed}
-use Rattle.em_log.proofs.Moments.{Moment, allowed-moment}
+use Rattle.em_moments.proofs.Moments.{Moment, allowed-moment}
 use Rattle.em_laws.proofs.Lists.{grows-by, for-queue, waiting-for}
 use Rattle.em_laws.proofs.Started.{take_size-le}
 

@@ -22,15 +22,15 @@ use Rattle.em_log.specs.Handles.{Minting, minting, Spending, spends, spent_by, s
 use Rattle.em_log.specs.Operations.{operation, notes_of, done, all_acked}
 use Rattle.em_log.specs.States.{closed}
 use Rattle.em_log.specs.Order.{Sent, open_ticket, let_in}
-use Rattle.em_log.specs.Arrivals.{Item, send_entering}
+use Rattle.em_log.specs.Arrivals.{Item, note_sent, note_entering, send_entering}
 use Rattle.em_log.specs.Places.{application_end, taken}
 use Rattle.em_log.specs.EventGroups.{applications, busy, applied_notes, count, is_current, open_stamp}
 use Rattle.em_log.specs.Leads.{call_of, refusal, own, refused_or, scope, lead}
-use Rattle.em_log.specs.Tails.{first_start, out_of, out, outs, note_sent, note_result, note_results, completion, notification, has_failed, ack_tail, global_start_tail, end_tail, tail_of, tail}
+use Rattle.em_log.specs.Tails.{first_start, out_of, out, outs, note_result, note_results, completion, notification, has_failed, ack_tail, global_start_tail, end_tail, tail_of, tail}
 use Rattle.em_log.specs.Lawful.{due, due_after, Begins, Boots, Steps, Takes, Starts, Untakes, Asks, IsNext, AllAllowed}
-use Rattle.em_log.proofs.Asked.{and-true}
-use Rattle.em_log.proofs.Steps.{Owes, OwesAck, OwesGlobalStart, OwesLocalStart, OwesLocalStop, OwesGlobalStop, step-owes}
-use Rattle.em_log.proofs.Moments.{Moment, allowed-moment}
+use Rattle.em_moments.proofs.Asked.{and-true}
+use Rattle.em_moments.proofs.Steps.{Owes, OwesAck, OwesGlobalStart, OwesLocalStart, OwesLocalStop, OwesGlobalStop, step-owes}
+use Rattle.em_moments.proofs.Moments.{Moment, allowed-moment}
 use Rattle.em_laws.proofs.Cores.{eqb-eq}
 use Rattle.em_laws.proofs.Counts.{occ, times, occ-append, times-append, has-occ}
 use Rattle.em_laws.proofs.Dones.{done-completes}
@@ -302,13 +302,13 @@ outs-held k at past (s ∷ ss) rest h =
     subst (λ xs. Holds past (suc (length ss)) xs) (sym (append_assoc (out k at s) (outs k at ss) rest))
     (out-held k at past s (length ss) (outs k at ss ++ rest) (outs-held k at past ss rest h))
 
-note-held : (k : Declarations) (at past : Past) (d : ℕ) (n : Note) (o : Option ℕ) (i : ℕ) (rest : List What) → Holds past i rest → Holds past (suc i) (note_result k at d n o ++ rest)
-note-held k at past d n None i rest h = out-held k at past (note_sent d n) i rest h
-note-held k at past d n (Some why) i rest h = record { few = let f = h.few in omega (arith, f); fits = (refl, tt, h.fits) }
+note-held : (k : Declarations) (at past : Past) (n : Note) (o : Option Sent) (i : ℕ) (rest : List What) → Holds past i rest → Holds past (suc i) (note_result k at n o ++ rest)
+note-held k at past n None i rest h = record { few = let f = h.few in omega (arith, f); fits = (refl, tt, h.fits) }
+note-held k at past n (Some s) i rest h = out-held k at past s i rest h
 
 results-held : (k : Declarations) (at past : Past) (d : ℕ) (ns : List Note) → Holds past (length ns) (note_results k at d ns)
 results-held k at past d [] = nothing-held past 0
-results-held k at past d (n ∷ ns) = note-held k at past d n (closed k at n.queue.0) (length ns) (note_results k at d ns) (results-held k at past d ns)
+results-held k at past d (n ∷ ns) = note-held k at past n (note_entering d n (closed k at n.queue.0)) (length ns) (note_results k at d ns) (results-held k at past d ns)
 
 completion-held : (k : Declarations) (at past : Past) (d : ℕ) (op : OpId) → operation at op.0 ≡ operation past op.0 → Holds past 0 (completion k at d op)
 completion-held k at past d op same =

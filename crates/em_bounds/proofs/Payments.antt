@@ -18,8 +18,8 @@ use Rattle.em_log.specs.Atomic.{is_empty}
 use Rattle.em_log.specs.EventGroups.{applications, busy, count}
 use Rattle.em_log.specs.Leads.{count_limit, count_refusal}
 use Rattle.em_log.specs.Lawful.{AllAllowed}
-use Rattle.em_log.proofs.Asked.{and-true}
-use Rattle.em_log.proofs.Moments.{Moment, EnterMoment, EntersBoot, EntersStep, ApplyMoment, allowed-moment}
+use Rattle.em_moments.proofs.Asked.{and-true}
+use Rattle.em_moments.proofs.Moments.{Moment, EnterMoment, EntersBoot, EntersStep, ApplyMoment, allowed-moment}
 use Rattle.em_laws.proofs.Cores.{Compared, Same, Other, compared, if-own}
 use Rattle.em_laws.proofs.Tickets.{one_if}
 use Rattle.em_laws.proofs.Begun.{numbered}
@@ -251,7 +251,7 @@ notifications w = 0
 apply-declared : (k : Declarations) (past : Past) (c g a n : ℕ) (notes : List Note) → ApplyMoment k past c g a n notes → g < k.egroups
 apply-declared k past c g a n notes m =
     let may = m.open_context.may in
-    ltb-true g k.egroups (and-true _ _ (and-true _ _ (and-true _ _ may).0).1).0
+    ltb-true g k.egroups (and-true _ _ (and-true _ _ (and-true _ _ (and-true _ _ may).0).1).0).0
 
 apply-idle : (past : Past) (g n : ℕ) → count_refusal past g n ≡ None → busy past g ≡ false
 apply-idle past g n ok = by_busy (busy past g) ok

@@ -21,16 +21,16 @@ use Rattle.em_log.specs.Contexts.{context}
 use Rattle.em_log.specs.Handles.{Minting, minting}
 use Rattle.em_log.specs.Operations.{Operation, operation, operations, notes_of, done, global_done, acked, all_acked, last_acker, op_id, owed_for, owed_to}
 use Rattle.em_log.specs.Order.{Sent, open_ticket, let_in}
-use Rattle.em_log.specs.Arrivals.{Item, send_entering}
+use Rattle.em_log.specs.Arrivals.{Item, note_entering, send_entering}
 use Rattle.em_log.specs.Places.{taken}
 use Rattle.em_log.specs.States.{closed}
 use Rattle.em_log.specs.EventGroups.{applied_notes, count, is_current, open_stamp}
-use Rattle.em_log.specs.Tails.{first_start, out_of, out, outs, note_sent, note_result, note_results, completion, notification, has_failed, ack_tail, global_start_tail, end_tail, tail_of, tail}
+use Rattle.em_log.specs.Tails.{first_start, out_of, out, outs, note_result, note_results, completion, notification, has_failed, ack_tail, global_start_tail, end_tail, tail_of, tail}
 use Rattle.em_log.specs.Lawful.{due, due_after, Begins, Boots, Steps, Takes, Starts, Untakes, Asks, IsNext, AllAllowed, Lawful}
 use Rattle.em_log.specs.Laws.{Always}
-use Rattle.em_log.proofs.Moments.{Moment, BeginMoment, AckMoment, AckChange, AckStart, AckStop, allowed-moment}
-use Rattle.em_log.proofs.Follows.{is_asked, lead-is_asked}
-use Rattle.em_log.proofs.Steps.{Owes, OwesAck, OwesGlobalStart, OwesLocalStart, OwesLocalStop, OwesGlobalStop, step-owes}
+use Rattle.em_moments.proofs.Moments.{Moment, BeginMoment, AckMoment, AckChange, AckStart, AckStop, allowed-moment}
+use Rattle.em_moments.proofs.Follows.{is_asked, lead-is_asked}
+use Rattle.em_moments.proofs.Steps.{Owes, OwesAck, OwesGlobalStart, OwesLocalStart, OwesLocalStop, OwesGlobalStop, step-owes}
 use Rattle.em_laws.proofs.Cores.{Compared, Same, Other, compared, none-some, some-inj}
 use Rattle.em_laws.proofs.Begun.{begun-kept, numbered, BegunAfter, BegunBefore, BeginsNow, begun-after}
 use Rattle.em_laws.proofs.Acks.{AckedAfter, AckedBefore, AcksNow, acked-after, all-acked-has, last-all}
@@ -96,11 +96,11 @@ outs-calm k at (s ∷ ss) = calm-append (out k at s) (outs k at ss) (out-calm k 
 
 results-calm : (k : Declarations) (at : Past) (d : ℕ) (ns : List Note) → AllCalm (note_results k at d ns)
 results-calm k at d [] = tt
-results-calm k at d (n ∷ ns) = calm-append (note_result k at d n (closed k at n.queue.0)) (note_results k at d ns) (by_closed (closed k at n.queue.0)) (results-calm k at d ns)
+results-calm k at d (n ∷ ns) = calm-append (note_result k at n (note_entering d n (closed k at n.queue.0))) (note_results k at d ns) (by_sent (note_entering d n (closed k at n.queue.0))) (results-calm k at d ns)
   where
-    by_closed : (o : Option ℕ) → AllCalm (note_result k at d n o)
-    by_closed None = out-calm k at (note_sent d n)
-    by_closed (Some why) = (refl, tt)
+    by_sent : (o : Option Sent) → AllCalm (note_result k at n o)
+    by_sent None = (refl, tt)
+    by_sent (Some s) = out-calm k at s
 
 notification-calm : (k : Declarations) (at : Past) (d : ℕ) (s : Option Stamp) → AllCalm (notification k at d s)
 notification-calm k at d None = tt
@@ -456,18 +456,22 @@ start-acked k l (e ∷ past) n c o x all at job there =
 
 last-exists-next : (k : Declarations) (past : Past) (d : ℕ) (w : What) (n : ℕ) → d < k.cores → (all_acked k past n ≡ true → (c : ℕ) × (c < k.cores) × (last_acker k past n ≡ Some c))
     → all_acked k (entry_by d w ∷ past) n ≡ true → (c : ℕ) × (c < k.cores) × (last_acker k (entry_by d w ∷ past) n ≡ Some c)
-last-exists-next k past d (What.Ack op) n lt older all = by_last (last_acker k past n) refl
+last-exists-next k past d (What.Ack op) n lt older all = by_number (compared op.0 n)
   where
     now : Past
     now = entry_by d (What.Ack op) ∷ past
 
-    by_last : (o : Option ℕ) → last_acker k past n ≡ o → (c : ℕ) × (c < k.cores) × (last_acker k now n ≡ Some c)
-    by_last None is = (d, lt, rw (all, is) refl)
-    by_last (Some c) is = by_acked (all_acked k past n) refl
+    by_last : (op.0 == n) ≡ true → (o : Option ℕ) → last_acker k past n ≡ o → (c : ℕ) × (c < k.cores) × (last_acker k now n ≡ Some c)
+    by_last same None is = (d, lt, rw (all, is, same) refl)
+    by_last same (Some c) is = by_acked (all_acked k past n) refl
       where
         by_acked : (b : Bool) → all_acked k past n ≡ b → (c : ℕ) × (c < k.cores) × (last_acker k now n ≡ Some c)
-        by_acked true was = let o = older was in (o.0, o.1, rw (all, o.2) refl)
+        by_acked true was = let o = older was in (o.0, o.1, rw (all, o.2, same) refl)
         by_acked false was = absurd (let on = last-all k past n c is in cc (on, was))
+
+    by_number : Compared op.0 n → (c : ℕ) × (c < k.cores) × (last_acker k now n ≡ Some c)
+    by_number (Same t e) = by_last t (last_acker k past n) refl
+    by_number (Other f e) = rw f (older (rw f at all))
 last-exists-next k past d w n lt older all = older all
 
 last-exists : (k : Declarations) (l : Limits) (past : Past) (n : ℕ) → AllAllowed k l past → 0 < k.cores → all_acked k past n ≡ true → (c : ℕ) × (c < k.cores) × (last_acker k past n ≡ Some c)

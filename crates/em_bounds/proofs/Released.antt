@@ -13,8 +13,8 @@ use Rattle.em_log.specs.Declarations.{numbers_from}
 use Rattle.em_log.specs.Handles.{Spending, spending}
 use Rattle.em_log.specs.Order.{Ticket, Sent, released, ticket_of_send, enters, is_ticket, sends_under, sends_under_all, let_in}
 use Rattle.em_log.specs.Lawful.{AllAllowed}
-use Rattle.em_log.proofs.Asked.{and-true}
-use Rattle.em_log.proofs.Moments.{Moment, allowed-moment}
+use Rattle.em_moments.proofs.Asked.{and-true}
+use Rattle.em_moments.proofs.Moments.{Moment, allowed-moment}
 use Rattle.em_laws.proofs.Cores.{eqb-eq}
 use Rattle.em_laws.proofs.Spent.{usable, spending-kept, spends-now}
 use Rattle.em_laws.proofs.Tickets.{nat-le-true, nat-le-is, nat-le-false}

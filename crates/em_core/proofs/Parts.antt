@@ -16,12 +16,12 @@ use Rattle.em_log.specs.History.{Past, part, onto, names, without_all, entry_by,
 use Rattle.em_log.specs.Leads.{lead}
 use Rattle.em_log.specs.Operations.{all_acked, operation, notes_of}
 use Rattle.em_log.specs.Order.{Sent, open_ticket, let_in}
-use Rattle.em_log.specs.Arrivals.{send_entering}
+use Rattle.em_log.specs.Arrivals.{note_entering, send_entering}
 use Rattle.em_log.specs.Declarations.{kind_of, is_output}
 use Rattle.em_log.specs.Contexts.{context, context_after}
 use Rattle.em_log.specs.States.{closed}
-use Rattle.em_log.specs.Tails.{tail_of, outs, out, out_of, note_result, note_results, note_sent, completion, notification, ack_tail, end_tail, global_start_tail, has_failed}
-use Rattle.em_log.proofs.Follows.{is_asked, lead-is_asked}
+use Rattle.em_log.specs.Tails.{tail_of, outs, out, out_of, note_result, note_results, completion, notification, ack_tail, end_tail, global_start_tail, has_failed}
+use Rattle.em_moments.proofs.Follows.{is_asked, lead-is_asked}
 use Rattle.em_core.specs.Pieces.{Piece, AreTail, history}
 use Rattle.em_core.specs.Steps.{GrowsByAsk, GrowsByTake}
 use Rattle.em_core.proofs.Handles.{differ}
@@ -48,14 +48,15 @@ outs-tail : (k : Declarations) (past : Past) (ss : List Sent) → AreTail (outs 
 outs-tail k past [] = tt
 outs-tail k past (s ∷ ss) = tail-append (out k past s) (outs k past ss) (out-tail k past s) (outs-tail k past ss)
 
-note-tail : (k : Declarations) (now : Past) (d : ℕ) (n : Note) (o : Option ℕ) → AreTail (note_result k now d n o)
-note-tail k now d n None = out-tail k now (note_sent d n)
-note-tail k now d n (Some why) = (refl, tt)
+note-tail : (k : Declarations) (now : Past) (n : Note) (o : Option Sent) → AreTail (note_result k now n o)
+note-tail k now n None = (refl, tt)
+note-tail k now n (Some s) = out-tail k now s
 
 notes-tail : (k : Declarations) (now : Past) (d : ℕ) (ns : List Note) → AreTail (note_results k now d ns)
 notes-tail k now d [] = tt
 notes-tail k now d (n ∷ ns) =
-    tail-append (note_result k now d n (closed k now n.queue.0)) (note_results k now d ns) (note-tail k now d n (closed k now n.queue.0)) (notes-tail k now d ns)
+    tail-append (note_result k now n (note_entering d n (closed k now n.queue.0))) (note_results k now d ns)
+    (note-tail k now n (note_entering d n (closed k now n.queue.0))) (notes-tail k now d ns)
 
 completion-tail : (k : Declarations) (past : Past) (d : ℕ) (op : OpId) → AreTail (completion k past d op)
 completion-tail k past d op =

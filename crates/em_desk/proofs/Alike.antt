@@ -11,7 +11,7 @@ use Rattle.em_log.specs.Contexts.{context, context_after}
 use Rattle.em_log.specs.Arrivals.{Item}
 use Rattle.em_log.specs.Places.{waiting}
 use Rattle.em_log.specs.Lawful.{AllAllowed}
-use Rattle.em_log.proofs.Moments.{Moment, EnterMoment, EntersBoot, EntersStep, allowed-moment}
+use Rattle.em_moments.proofs.Moments.{Moment, EnterMoment, EntersBoot, EntersStep, allowed-moment}
 use Rattle.std.proofs.lemmas.Bool.Decides.{eqb_tells}
 use Rattle.em_pool.specs.Steps.{Step, held}
 use Rattle.em_pool.specs.Handles as pool
@@ -64,7 +64,7 @@ taken-last c i [] steps = refl
 taken-last c i (x ∷ xs) steps = taken-last c i xs _
 
 claim-last : (c i : ℕ) (e : Option Event) (steps : List Step)
-    → pool.last_handle (minted_steps c e steps) i ≡ log.last_handle_by i c e (pool.last_handle steps i)
+    → pool.last_handle (minted_steps c e steps) i ≡ log.last_handle_by i e (pool.last_handle steps i)
 claim-last c i None steps = refl
 claim-last c i (Some e) steps = refl
 
@@ -73,10 +73,10 @@ same-last k [] i p = refl
 same-last k (e ∷ past) i p =
     let steps = pool_steps k past in
     let c = e.core.0 in
-    by_plain (λ w. pool.last_handle (pool_after k past c w steps) i ≡ log.last_handle_by i c (minted_in w) (pool.last_handle steps i)) refl
+    by_plain (λ w. pool.last_handle (pool_after k past c w steps) i ≡ log.last_handle_by i (minted_in w) (pool.last_handle steps i)) refl
     (λ q. taken-last c i (take 1 (waiting k past q.0 c)) steps) (λ _ _. refl) (λ _. refl) (λ _ _. refl) (λ _. refl) (λ _ _. refl) (λ _. refl)
     (λ o. claim-last c i o steps) (λ _. refl) (λ _ _ _. refl) e.what p.0
-    ∙ ap (log.last_handle_by i c (minted_in e.what)) (same-last k past i p.1)
+    ∙ ap (log.last_handle_by i (minted_in e.what)) (same-last k past i p.1)
 
 -- held
 

@@ -9,7 +9,7 @@ use Rattle.em_log.specs.Contexts.{context, context_after, ends_boot}
 use Rattle.em_log.specs.Atomic.{holds}
 use Rattle.em_log.specs.Leads.{scope}
 use Rattle.em_log.specs.Legal.{Lead, lead_here, leads_after}
-use Rattle.em_log.specs.Lawful.{may_ask, is_declared, is_placed, due}
+use Rattle.em_log.specs.Lawful.{may_ask, is_ask, is_declared, is_typed, is_placed, due}
 use Rattle.em_log.specs.Allowance.{left, cost_of_lead}
 use Rattle.em_log.specs.Answers.{block, answer_of}
 use Rattle.em_desk.specs.declared.opening.Opening.{Opening}
@@ -47,17 +47,18 @@ some-of (Some x) h = (x, refl)
 pub may-open : (k : Declarations) (past : Past) (c : ℕ) (a : Ask) → IsTrue (may_ask k past c a) → (b : What) × (context past c ≡ Some b)
 may-open k past c a may =
     some-of (context past c)
-    (first-and (is_some (context past c)) (is_declared k a)
-    (first-and (is_some (context past c) && is_declared k a) (is_placed (context past c) (holds k past c) a) may))
+    (first-and (is_some (context past c)) (is_ask k a)
+    (first-and (is_some (context past c) && is_ask k a) (is_placed (context past c) (holds k past c) a) may))
 
 pub may-declared : (k : Declarations) (past : Past) (c : ℕ) (a : Ask) → IsTrue (may_ask k past c a) → IsTrue (is_declared k a)
 may-declared k past c a may =
-    second-and (is_some (context past c)) (is_declared k a)
-    (first-and (is_some (context past c) && is_declared k a) (is_placed (context past c) (holds k past c) a) may)
+    first-and (is_declared k a) (is_typed a)
+    (second-and (is_some (context past c)) (is_ask k a)
+    (first-and (is_some (context past c) && is_ask k a) (is_placed (context past c) (holds k past c) a) may))
 
 pub may-placed : (k : Declarations) (past : Past) (c : ℕ) (a : Ask) → IsTrue (may_ask k past c a)
     → IsTrue (is_placed (context past c) (holds k past c) a)
-may-placed k past c a may = second-and (is_some (context past c) && is_declared k a) (is_placed (context past c) (holds k past c) a) may
+may-placed k past c a may = second-and (is_some (context past c) && is_ask k a) (is_placed (context past c) (holds k past c) a) may
 
 -- contexts
 

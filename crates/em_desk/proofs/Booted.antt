@@ -8,7 +8,7 @@ use Rattle.em_log.specs.declared.ids.Limits.{Limits}
 use Rattle.em_log.specs.History.{Past, entry_by}
 use Rattle.em_log.specs.Contexts.{context, context_after, boot_ended, ends_boot, is_boot}
 use Rattle.em_log.specs.Lawful.{AllAllowed}
-use Rattle.em_log.proofs.Moments.{Moment, EnterMoment, EntersBoot, EntersStep, allowed-moment}
+use Rattle.em_moments.proofs.Moments.{Moment, EnterMoment, EntersBoot, EntersStep, allowed-moment}
 use Rattle.em_desk.specs.Plain.{IsPlain, ArePlain}
 use Rattle.em_desk.proofs.Plain.{by_plain}
 use Rattle.em_desk.proofs.Graphs.{no-step}

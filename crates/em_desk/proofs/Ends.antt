@@ -20,7 +20,7 @@ use Rattle.em_log.specs.Places.{gone, taken}
 use Rattle.em_log.specs.Tails.{tail}
 use Rattle.em_log.specs.Lawful.{Lawful, Asks, may_ask, is_placed}
 use Rattle.em_log.specs.Allowance.{left}
-use Rattle.em_log.proofs.Blocks.{block-lawful}
+use Rattle.em_moments.proofs.Blocks.{block-lawful}
 use Rattle.em_pool.specs.declared.place.Place.{Place}
 use Rattle.em_pool.specs.Steps.{Lost}
 use Rattle.em_pool.specs.Places.{can_shift}

@@ -14,7 +14,7 @@ use Rattle.em_log.specs.Tails.{tail}
 use Rattle.em_log.specs.Legal.{Lead, lead_here, leads_after}
 use Rattle.em_log.specs.Lawful.{Lawful, Begins, due}
 use Rattle.em_log.specs.Allowance.{left, cost_of_lead}
-use Rattle.em_log.proofs.Blocks.{block-lawful}
+use Rattle.em_moments.proofs.Blocks.{block-lawful}
 use Rattle.em_pool.specs.Places.{shift}
 use Rattle.em_pool.specs.State.{PoolState}
 use Rattle.em_pool.specs.Stands as pools

@@ -18,10 +18,10 @@ use Rattle.em_desk.proofs.Room.{other-test}
 
 -- on the steps of the pools
 
-last-index-by : (i c h : ℕ) (o : Option Event) (was : Option ℕ) → (was ≡ Some h → index_of h ≡ i)
-    → log.last_handle_by i c o was ≡ Some h → index_of h ≡ i
-last-index-by i c h None was before is = before is
-last-index-by i c h (Some e) was before is = by_test (eqb_tells (index_of e.handle.0) i) is
+last-index-by : (i h : ℕ) (o : Option Event) (was : Option ℕ) → (was ≡ Some h → index_of h ≡ i)
+    → log.last_handle_by i o was ≡ Some h → index_of h ≡ i
+last-index-by i h None was before is = before is
+last-index-by i h (Some e) was before is = by_test (eqb_tells (index_of e.handle.0) i) is
   where
     by_test : (((index_of e.handle.0 == i) ≡ true) × (index_of e.handle.0 ≡ i)) ⊎ (((index_of e.handle.0 == i) ≡ false) × (index_of e.handle.0 ≢ i))
         → (if index_of e.handle.0 == i then Some e.handle.0 else was) ≡ Some h → index_of h ≡ i
@@ -31,7 +31,7 @@ last-index-by i c h (Some e) was before is = by_test (eqb_tells (index_of e.hand
 -- a last handle is one of its index
 pub last-index : (steps : List Step) (i h : ℕ) → pool.last_handle steps i ≡ Some h → index_of h ≡ i
 last-index [] i h is = absurd cc
-last-index (s ∷ steps) i h is = last-index-by i (minter s) h (minted_in_step s) (pool.last_handle steps i) (last-index steps i h) is
+last-index (s ∷ steps) i h is = last-index-by i h (minted_in_step s) (pool.last_handle steps i) (last-index steps i h) is
 
 or-none : {A : Type 0} (o : Option A) → option_or o None ≡ o
 or-none None = refl

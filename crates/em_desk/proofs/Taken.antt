@@ -16,7 +16,7 @@ use Rattle.em_log.specs.Places.{waiting, kept}
 use Rattle.em_log.specs.Leads.{item_again}
 use Rattle.em_log.specs.Lawful.{Lawful, Boots, Takes}
 use Rattle.em_log.specs.Answers.{object_id}
-use Rattle.em_log.proofs.Blocks.{block-lawful}
+use Rattle.em_moments.proofs.Blocks.{block-lawful}
 use Rattle.em_pool.specs.declared.place.Place.{Place}
 use Rattle.em_pool.specs.Steps.{Step, Minted, Shifted}
 use Rattle.em_pool.specs.State.{PoolState}

@@ -293,7 +293,7 @@ waits-next k past queues c q e r j x n at other w =
     (other-minting x.handle c e (log.minting past x.handle) (λ is. other (sym w.parked.index ∙ (sym is ∙ at)))) w
 
 last-below : (k : Declarations) (past : Past) (c : ℕ) (e : Event) (j h : ℕ) → index_of e.handle.0 < event_total k.pools
-    → (log.last_handle past j ≡ Some h → j < event_total k.pools) → log.last_handle_by j c (Some e) (log.last_handle past j) ≡ Some h
+    → (log.last_handle past j ≡ Some h → j < event_total k.pools) → log.last_handle_by j (Some e) (log.last_handle past j) ≡ Some h
     → j < event_total k.pools
 last-below k past c e j h lt before is = by_test (eqb_tells (index_of e.handle.0) j)
   where

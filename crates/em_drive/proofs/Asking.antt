@@ -1,5 +1,6 @@
 -- A run that asks: the desk's conditions hold, and what holds after the reply.
 use Rattle.std.proofs.Common.{◌≡◌, ℕ, ◌≤◌, Bool, true, false, ◌&&◌, List, Option, Some, None, refl, sym, ap, subst, ◌∙◌, IsTrue, is_some, IfSome}
+use Rattle.std.proofs.lemmas.Bool.{and_from}
 use Rattle.std.specs.Option.{option_map, option_map_or}
 use Rattle.em_log.specs.declared.ask.Ask.{Ask}
 use Rattle.em_log.specs.declared.ask.Context.{Context}
@@ -14,13 +15,12 @@ use Rattle.em_log.specs.Atomic.{holds}
 use Rattle.em_log.specs.Contexts as log
 use Rattle.em_log.specs.Declarations.{declarations_of}
 use Rattle.em_log.specs.History.{Past}
-use Rattle.em_log.specs.Lawful.{may_ask, is_declared, is_placed, are_cells}
+use Rattle.em_log.specs.Lawful.{may_ask, is_ask, is_declared, is_typed, is_placed}
 use Rattle.em_core.specs.declared.core_run.CoreRun.{CoreRun}
 use Rattle.em_core.specs.declared.core_run.Stage.{Stage}
 use Rattle.em_core.specs.declared.core_run.Step.{Step}
 use Rattle.em_core.specs.Pieces.{Piece, begun_by, open_context, exchanges}
 use Rattle.em_core.specs.Stands.{IsAt, IsOver, IsAtStage}
-use Rattle.em_body.specs.AskLaws.{HasEightCells}
 use Rattle.em_body.specs.contracts.run.BodyRunWork.TheImpl.{ghosts}
 use Rattle.em_body.specs.Standings.{Made, Run, Standing, Moves, Ends, Goes, Sets, Branches, Repeats, Writes, Asks, entry_of, opening, carried}
 use Rattle.em_body.proofs.AsksOfStatements.{asks-are}
@@ -50,17 +50,6 @@ same-entry (Context.LocalStart op x) = refl
 same-entry (Context.LocalStop op x) = refl
 same-entry (Context.GlobalStop op x) = refl
 
-eight-of-none : (cells : Option Cells) → cells ≡ None → IsTrue (option_map_or are_cells cells true)
-eight-of-none cells is = rw is refl
-
-no-cells-eight : (opened : Context) → HasNoCells opened → HasEightCells opened
-no-cells-eight Context.Boot none = tt
-no-cells-eight (Context.Receive r) none = eight-of-none r.cells none
-no-cells-eight (Context.GlobalStart op x) none = tt
-no-cells-eight (Context.LocalStart op x) none = tt
-no-cells-eight (Context.LocalStop op x) none = tt
-no-cells-eight (Context.GlobalStop op x) none = tt
-
 no-cells-open : (c : ℕ) (opened : Context) → HasNoCells opened → (opening c opened).cells ≡ None
 no-cells-open c Context.Boot none = refl
 no-cells-open c (Context.Receive r) none = ap (option_map (λ (cs : Cells). cs.0)) none
@@ -76,10 +65,11 @@ both true false c p q r = absurd cc
 both true true false p q r = absurd cc
 
 may-stand : (k : Declarations) (past : Past) (opened : Context) (a : Ask) → log.context past 0 ≡ Some (begun_by opened) → holds k past 0 ≡ None
-    → IsTrue (is_declared k a) → IsTrue (is_placed (Some (entry_of opened)) None a) → IsTrue (may_ask k past 0 a)
-may-stand k past opened a is hold declared placed =
+    → IsTrue (is_declared k a) → IsTrue (is_typed a) → IsTrue (is_placed (Some (entry_of opened)) None a) → IsTrue (may_ask k past 0 a)
+may-stand k past opened a is hold declared typed placed =
     let begun : log.context past 0 ≡ Some (entry_of opened) = is ∙ ap Some (same-entry opened) in
-    both (is_some (log.context past 0)) (is_declared k a) (is_placed (log.context past 0) (holds k past 0) a) (rw begun refl) declared
+    both (is_some (log.context past 0)) (is_ask k a) (is_placed (log.context past 0) (holds k past 0) a) (rw begun refl)
+    (and_from (is_declared k a) (is_typed a) declared typed)
     (subst (λ (o : Option What). IsTrue (is_placed o (holds k past 0) a)) (sym begun)
     (subst (λ (h : Option ℕ). IsTrue (is_placed (Some (entry_of opened)) h a)) (sym hold) placed))
 
@@ -138,36 +128,36 @@ work-ends g l desk run going cells is =
 end-placed : (opened : Context) → IsTrue (is_placed (Some (entry_of opened)) None (Ask.End None))
 end-placed opened = refl
 
-askable-at : (g : Config) (l : Limits) (desk : DeskState) (run : CoreRun Run) (a : Ask) → IsGoing g l desk run
+askable-at : (g : Config) (l : Limits) (desk : DeskState) (run : CoreRun Run) (a : Ask) → IsTrue (is_typed a) → IsGoing g l desk run
     → holds (declarations_of g) desk.past 0 ≡ None → IsAsking (ghosts.unanswered (ghosts.state run.work)) run.stage a
     → IsAskable (declarations_of g) desk.past a
-askable-at g l desk run a going hold (Working n is asks) =
+askable-at g l desk run a typed going hold (Working n is asks) =
     let m = going.pieces in
     let f : Made = record { graph = g; core = 0 } in
     let w = work-asks g l desk run going n is in
     let opened = w.at.context in
-    let stand = asks-stand f going.well_formed opened (no-cells-eight opened w.cells) (exchanges m) run.work.standing w.at.reached a asks in
+    let stand = asks-stand f going.well_formed opened (exchanges m) run.work.standing w.at.reached a asks in
     let of = asks-are is_runnable_statement f opened (exchanges m) run.work.standing w.at.reached (runnable-bodies g going.well_formed going.runnable opened) a asks in
     record {
-      may_ask = may-stand (declarations_of g) desk.past opened a w.reading.begun hold stand.declared (stand.placed None (λ none. refl));
+      may_ask = may-stand (declarations_of g) desk.past opened a w.reading.begun hold stand.declared typed (stand.placed None (λ none. refl));
       allowance = ask-within g desk.past 0 opened (exchanges m) (asked_entries m) run.work.standing n a going.well_formed w.reading
           (subst (λ (o : Option Context). IsAt ghosts f o (exchanges m) (ghosts.state run.work) n) w.at.is_open w.at) asks;
       served = subst IsServed (sym of.is) (runnable-served of.statement run.work.standing.env of.passes of.asks);
     }
-askable-at g l desk run a going hold (Ending cells is ends) =
+askable-at g l desk run a typed going hold (Ending cells is ends) =
     let w = work-ends g l desk run going cells is in
     let ask : a ≡ Ask.End None = ends ∙ ap Ask.End w.no_cells in
     subst (IsAskable (declarations_of g) desk.past) (sym ask)
     (record {
-      may_ask = may-stand (declarations_of g) desk.past w.over.context (Ask.End None) w.reading.begun hold refl (end-placed w.over.context);
+      may_ask = may-stand (declarations_of g) desk.past w.over.context (Ask.End None) w.reading.begun hold refl refl (end-placed w.over.context);
       allowance = end-within g desk.past 0 None;
       served = tt;
     })
 
-pub askable : (g : Config) (l : Limits) (desk : DeskState) (run : CoreRun Run) (a : Ask) → IsAwaiting (Some (Step.Ask a)) g l desk run
+pub askable : (g : Config) (l : Limits) (desk : DeskState) (run : CoreRun Run) (a : Ask) → IsTrue (is_typed a) → IsAwaiting (Some (Step.Ask a)) g l desk run
     → holds desk.declarations desk.past 0 ≡ None → IsAskable desk.declarations desk.past a
-askable g l desk run a w hold =
+askable g l desk run a typed w hold =
     let graph = w.going.graph in
     subst (λ (k : Declarations). IsAskable k desk.past a) (sym graph)
-    (askable-at g l desk run a w.going (subst (λ (k : Declarations). holds k desk.past 0 ≡ None) graph hold)
+    (askable-at g l desk run a typed w.going (subst (λ (k : Declarations). holds k desk.past 0 ≡ None) graph hold)
     (asking (ghosts.unanswered (ghosts.state run.work)) run.stage a w.unreplied))

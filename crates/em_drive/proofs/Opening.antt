@@ -24,7 +24,7 @@ use Rattle.em_log.specs.Legal.{leads, whats, body_in, body_of, declared_object, 
 use Rattle.em_log.specs.Order.{Ticket, open_ticket}
 use Rattle.em_log.specs.Places.{taken, waiting}
 use Rattle.em_log.specs.Tails.{first_start}
-use Rattle.em_log.proofs.Choices.{choice-ready}
+use Rattle.em_moments.proofs.Choices.{choice-ready}
 use Rattle.em_core.specs.Pieces.{Piece, HasNoRest, history}
 use Rattle.em_core.proofs.Histories.{own}
 use Rattle.em_body.specs.Standings as work

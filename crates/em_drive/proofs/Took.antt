@@ -21,7 +21,7 @@ use Rattle.em_log.specs.History.{Past, entry_by, onto}
 use Rattle.em_log.specs.Legal.{EndedFollow}
 use Rattle.em_log.specs.Operations.{step}
 use Rattle.em_log.specs.Tails.{tail}
-use Rattle.em_log.proofs.Asked.{and-true}
+use Rattle.em_moments.proofs.Asked.{and-true}
 use Rattle.em_core.specs.Pieces.{Piece, HasNoRest, history}
 use Rattle.em_desk.specs.Simple.{IsSimple}
 use Rattle.em_desk.specs.State.{IsWaited, Unbegun, Busy}

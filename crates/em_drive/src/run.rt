@@ -86,6 +86,7 @@ fn ask<'a>(desk: &mut Desk, run: &mut CoreRun<BodyRun<'a>>, ask: Ask)
     ensures grows { length desk.old.past < length desk.new.past }
 {
     desk.history_is_simple();
+    ask.is_typed();
     let reply = desk.ask(CORE, ask, run.locals());
     desk.history_is_simple();
     run.told(&reply);

@@ -13,8 +13,8 @@ use Rattle.em_log.specs.Contexts.{context}
 use Rattle.em_log.specs.Operations.{step, pending}
 use Rattle.em_log.specs.Leads.{aims_at_group}
 use Rattle.em_log.specs.Lawful.{AllAllowed, Begins, Boots, Steps, Takes, Starts, Untakes, Asks, IsNext, due}
-use Rattle.em_log.proofs.Asked.{asks-open}
-use Rattle.em_log.proofs.Moments.{Moment, allowed-moment, AckMoment, AckChange, AckStart, AckStop, EnterMoment, EntersBoot, EntersStep, JobMoment, StartJob, StopJob, ModifyJob}
+use Rattle.em_moments.proofs.Asked.{asks-open}
+use Rattle.em_moments.proofs.Moments.{Moment, allowed-moment, AckMoment, AckChange, AckStart, AckStop, EnterMoment, EntersBoot, EntersStep, JobMoment, StartJob, StopJob, ModifyJob}
 
 -- the newest entry of this history, as the definitions let it come, and the facts of its moment
 

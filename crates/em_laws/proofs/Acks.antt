@@ -6,7 +6,7 @@ use Rattle.em_log.specs.declared.entry.What.{What}
 use Rattle.em_log.specs.History.{Past, entry_by, has}
 use Rattle.em_log.specs.Declarations.{numbers_from, below}
 use Rattle.em_log.specs.Operations.{acked, all_acked, last_if, last_acker}
-use Rattle.em_log.proofs.Asked.{and-true}
+use Rattle.em_moments.proofs.Asked.{and-true}
 use Rattle.em_laws.proofs.Cores.{Compared, Same, Other, compared}
 
 all-from : (p : ℕ → Bool) (c a n : ℕ) → list_all p (numbers_from a n) ≡ true → a ≤ c → c < a + n → p c ≡ true
@@ -70,7 +70,11 @@ last_if-some false c x = refl
 
 -- the last acknowledgement stays the last
 pub last-kept : (k : Declarations) (past : Past) (d : ℕ) (w : What) (n c : ℕ) → last_acker k past n ≡ Some c → last_acker k (entry_by d w ∷ past) n ≡ Some c
-last-kept k past d (What.Ack op) n c h = rw h (last_if-some (all_acked k (entry_by d (What.Ack op) ∷ past) n) d c)
+last-kept k past d (What.Ack op) n c h = by_test (op.0 == n)
+  where
+    by_test : (b : Bool) → (if b then last_if (all_acked k (entry_by d (What.Ack op) ∷ past) n) d (last_acker k past n) else last_acker k past n) ≡ Some c
+    by_test true = ap (last_if (all_acked k (entry_by d (What.Ack op) ∷ past) n) d) h ∙ last_if-some (all_acked k (entry_by d (What.Ack op) ∷ past) n) d c
+    by_test false = h
 last-kept k past d w n c h = h
 
 last_if-all : (b : Bool) (d : ℕ) (o : Option ℕ) (c : ℕ) → last_if b d o ≡ Some c → (b ≡ true) ⊎ (o ≡ Some c)
@@ -81,11 +85,16 @@ last_if-all false d (Some x) c h = inr h
 
 last-all-by : (k : Declarations) (past : Past) (d : ℕ) (w : What) (n c : ℕ) → (last_acker k past n ≡ Some c → all_acked k past n ≡ true)
     → last_acker k (entry_by d w ∷ past) n ≡ Some c → all_acked k (entry_by d w ∷ past) n ≡ true
-last-all-by k past d (What.Ack op) n c older h = by_case (last_if-all (all_acked k (entry_by d (What.Ack op) ∷ past) n) d (last_acker k past n) c h)
+last-all-by k past d (What.Ack op) n c older h = by_test (op.0 == n) h
   where
     by_case : (all_acked k (entry_by d (What.Ack op) ∷ past) n ≡ true) ⊎ (last_acker k past n ≡ Some c) → all_acked k (entry_by d (What.Ack op) ∷ past) n ≡ true
     by_case (inl all) = all
     by_case (inr was) = all-acked-more k past d (What.Ack op) n (older was)
+
+    by_test : (b : Bool) → (if b then last_if (all_acked k (entry_by d (What.Ack op) ∷ past) n) d (last_acker k past n) else last_acker k past n) ≡ Some c
+        → all_acked k (entry_by d (What.Ack op) ∷ past) n ≡ true
+    by_test true h = by_case (last_if-all (all_acked k (entry_by d (What.Ack op) ∷ past) n) d (last_acker k past n) c h)
+    by_test false h = by_case (inr h)
 last-all-by k past d w n c older h = all-acked-more k past d w n (older h)
 
 -- after it every core has acknowledged

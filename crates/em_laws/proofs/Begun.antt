@@ -11,7 +11,7 @@ use Rattle.em_log.specs.Declarations.{numbers_from}
 use Rattle.em_log.specs.Operations.{Operation, operation, operations, done, op_id, is_done, is_aim, first_pending, pending}
 use Rattle.em_log.specs.Leads.{aims_at_object, aims_at_group}
 use Rattle.em_log.specs.Lawful.{AllAllowed}
-use Rattle.em_log.proofs.Moments.{Moment, BeginMoment, JobMoment, StartJob, StopJob, ModifyJob, allowed-moment}
+use Rattle.em_moments.proofs.Moments.{Moment, BeginMoment, JobMoment, StartJob, StopJob, ModifyJob, allowed-moment}
 use Rattle.em_laws.proofs.Cores.{Compared, Same, Other, compared, eqb-eq, some-inj}
 
 -- an operation after an entry: it had begun, or begins now

@@ -6,7 +6,7 @@ use Rattle.em_log.specs.declared.ids.Limits.{Limits}
 use Rattle.em_log.specs.History.{Past, onto}
 use Rattle.em_log.specs.Tails.{tail, tail_of}
 use Rattle.em_log.specs.Lawful.{AllAllowed, Lawful, due, due_after}
-use Rattle.em_log.proofs.Blocks.{OfCores, entries_by-of, onto-lawful}
+use Rattle.em_moments.proofs.Blocks.{OfCores, entries_by-of, onto-lawful}
 
 after-of : (k : Declarations) (past : Past) (e : Entry) (ds : List Entry) → e.core.0 < k.cores → OfCores k.cores ds → OfCores k.cores (due_after ds (tail k past e))
 after-of k past e [] h of = entries_by-of k.cores e.core.0 (tail_of k past (e ∷ past) e.core.0 e.what) h

@@ -1,16 +1,17 @@
 -- The short histories that break the laws.
 use Rattle.std.specs.Prelude.{T, ltb}
-use Rattle.std.proofs.Common.{◌≡◌, ◌≤◌, ℕ, List, [], ◌∷◌, ◌++◌, length, map, take, Some, None, refl, sym, subst, inl, lit<, arith}
+use Rattle.std.proofs.Common.{◌≡◌, ◌≤◌, ℕ, true, List, Option, [], ◌∷◌, ◌++◌, length, map, take, Some, None, refl, sym, subst, inl, lit<, arith}
 use Rattle.em_log.specs.declared.declarations.Declarations.{Declarations}
 use Rattle.em_log.specs.declared.ask.Ask.{Ask}
 use Rattle.em_log.specs.declared.entry.Entry.{Entry}
 use Rattle.em_log.specs.declared.ids.Limits.{Limits}
-use Rattle.em_log.specs.History.{Past}
-use Rattle.em_log.specs.Arrivals.{arrivals}
-use Rattle.em_log.specs.Atomic.{holder}
+use Rattle.em_log.specs.History.{Past, has}
+use Rattle.em_log.specs.Order.{enters, ticket_of_send}
+use Rattle.em_log.specs.Arrivals.{Item, arrivals}
+use Rattle.em_log.specs.Atomic.{has_open_take}
 use Rattle.em_log.specs.Lawful.{Steps, Boots, Takes, Untakes, Asks, IsNext, Allowed, AllAllowed, Lawful, due}
-use Rattle.em_log.specs.Laws.{OnlyHolder, Once, shown_item, starts, within}
-use Rattle.em_log.proofs.Moments.{allowed-moment}
+use Rattle.em_log.specs.Laws.{entered_in, HoldsAlone, OnlyHolder, EntersAsSent, Once, shown_item, starts, within}
+use Rattle.em_moments.proofs.Moments.{allowed-moment}
 use Rattle.em_laws.specs.Broken.{BreaksOnly, StopLaw, GroupLaw, AtomicLaw, OnceLaw, two_cores, ten_receives, queue, op, egroup, zero_cells, stop_begun, early_ack, stop_completes, group_changed, excluded_take, excluded_starts, one_inside, second_take, second_starts, aborted, second_notification, given_back, second_start}
 use Rattle.em_laws.proofs.Cores.{Compared, Same, Other, compared, none-some, some-inj}
 use Rattle.em_laws.proofs.Blocks.{all-before}
@@ -29,6 +30,18 @@ x also y = (x, y)
 -- an entry is allowed: its core is there, and it may come next
 comes : {past : Past} {e : Entry} → T (ltb e.core.0 2) → IsNext two_cores ten_receives past (due two_cores past) e → Allowed two_cores ten_receives past e
 comes c next = record { core = lit< c; next = next }
+
+-- the item of an event that was sent without a stamp
+abbrev item_of : ℕ → Item
+item_of h = record { handle = h; kind = 7; words = []; stamp = None }
+
+-- a send that has entered: it stands between these items of its queue
+stands-between : {now past : Past} {d h q : ℕ} {t : Option ℕ} (before after : List Item) → has (entered_in two_cores now q) h ≡ enters now (ticket_of_send past d t)
+    → ((c : ℕ) → arrivals two_cores now q c ≡ before ++ item_of h ∷ after) → EntersAsSent two_cores now past d h q t None
+stands-between before after turn list = record {
+  turn = turn;
+  stands = λ on c own. record { before = before; item = item_of _; after = after; list = list c; handle = refl; stamp = refl };
+}
 
 -- an acknowledgement with a receive open
 
@@ -69,8 +82,11 @@ stop-starts q c = by_queue (compared 2 q)
 stop-once : Once two_cores stop_history
 stop-once = record {
   different = refl also refl also tt;
-  sent = tt also tt also tt also tt also tt also tt also tt also tt also tt also tt also tt also tt also tt also tt also tt also tt also refl also tt also refl also tt also tt also tt;
+  sent = tt also tt also tt also tt also tt also tt also tt also tt also tt also tt also tt also tt also tt also tt also tt also tt
+      also stands-between (item_of 65536 ∷ []) [] refl (λ c. refl) also tt also stands-between [] (item_of 65537 ∷ []) refl (λ c. refl) also tt also tt also tt;
   started = stop-starts;
+  renewed = tt also tt also tt also tt also tt also tt also tt also tt also tt also tt also tt also refl also tt also refl also tt also tt
+      also tt also tt also tt also tt also tt also tt;
   notified = λ g a. omega arith;
 }
 
@@ -124,8 +140,9 @@ group-starts q c = by_queue (compared 2 q)
 group-once : Once two_cores group_history
 group-once = record {
   different = refl also tt;
-  sent = tt also tt also tt also tt also tt also tt also tt also refl also tt also tt also tt;
+  sent = tt also tt also tt also tt also tt also tt also tt also stands-between [] [] refl (λ c. refl) also tt also tt also tt;
   started = group-starts;
+  renewed = refl also tt also tt also tt also tt also tt also tt also tt also tt also tt also tt;
   notified = λ g a. omega arith;
 }
 
@@ -172,8 +189,9 @@ inside-starts q c = by_queue (compared 0 q) (compared 1 q)
 inside-once : Once two_cores inside_history
 inside-once = record {
   different = refl also refl also tt;
-  sent = tt also tt also tt also tt also tt also refl also tt also refl also tt also tt also tt;
+  sent = tt also tt also tt also tt also tt also stands-between [] [] refl (λ c. refl) also tt also stands-between [] [] refl (λ c. refl) also tt also tt also tt;
   started = inside-starts;
+  renewed = refl also tt also refl also tt also tt also tt also tt also tt also tt also tt also tt;
   notified = λ g a. omega arith;
 }
 
@@ -183,7 +201,7 @@ two-inside = record {
   wrong = second-wrong;
   after = comes tt refl also tt;
   whole = refl;
-  broken = λ law. absurd (cc (law.0 0 1 refl));
+  broken = λ law. absurd (cc (law.0 0 1 refl).holder);
   others = (stop-obeyed two_cores inside_history refl, group-obeyed two_cores inside_history refl, inside-once);
   unlawful = not-lawful two_cores ten_receives second_starts second_take one_inside second-wrong;
 }
@@ -258,11 +276,16 @@ started_history = second_start ∷ given_back
 started-holder : OnlyHolder two_cores started_history
 started-holder a c h = by_core (compared 0 c)
   where
-    by_core : Compared 0 c → holder two_cores started_history a ≡ Some c
+    alone : (d : ℕ) → has_open_take two_cores started_history 0 d ≡ true → Compared 0 d → d ≡ 0
+    alone d opened (Same _ e) = sym e
+    alone d opened (Other f _) = absurd (cc (rw f at opened))
+
+    by_core : Compared 0 c → HoldsAlone two_cores started_history a c
     by_core (Same _ e) =
         let here : within two_cores started_history 0 ≡ Some a = subst (λ i. within two_cores started_history i ≡ Some a) (sym e) h in
         let group : 0 ≡ a = some-inj 0 a here in
-        subst (λ i. holder two_cores started_history i ≡ Some c) group (subst (λ i. holder two_cores started_history 0 ≡ Some i) e refl)
+        subst (λ i. HoldsAlone two_cores started_history i c) group
+        (subst (λ i. HoldsAlone two_cores started_history 0 i) e (record { holder = refl; alone = λ d i. alone d i (compared 0 d) }))
     by_core (Other f _) = let none : None ≡ Some a = rw f at h in absurd (none-some a none)
 
 pub starts-twice : BreaksOnly two_cores ten_receives OnceLaw [] second_start given_back

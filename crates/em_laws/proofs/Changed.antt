@@ -12,8 +12,8 @@ use Rattle.em_log.specs.States.{mask, mask_done, change, within_change, effectiv
 use Rattle.em_log.specs.Eligible.{has_core}
 use Rattle.em_log.specs.Lawful.{AllAllowed}
 use Rattle.em_log.specs.Laws.{Always, Each, settled_by, settled, InSettled, TakesInSettled, ServedInSettled, GroupQuiet}
-use Rattle.em_log.proofs.Choices.{IsReady}
-use Rattle.em_log.proofs.Moments.{Moment, allowed-moment}
+use Rattle.em_moments.proofs.Choices.{IsReady}
+use Rattle.em_moments.proofs.Moments.{Moment, allowed-moment}
 use Rattle.em_laws.proofs.Cores.{Compared, Same, Other, compared, none-some, some-inj}
 use Rattle.em_laws.proofs.Served.{Serves, ServesAfter, ServedBefore, TakesNow, serves-after}
 use Rattle.em_laws.proofs.Dones.{Completes, CompletesChange, CompletesStart, FailsStart, CompletesStop, done-completes}

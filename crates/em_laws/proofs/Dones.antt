@@ -14,8 +14,8 @@ use Rattle.em_log.specs.History.{Past, entry_by, has}
 use Rattle.em_log.specs.Operations.{Operation, operation, done, global_done, acked, all_acked}
 use Rattle.em_log.specs.Lawful.{AllAllowed}
 use Rattle.em_log.specs.Laws.{Always}
-use Rattle.em_log.proofs.Steps.{Owes, OwesAck, OwesGlobalStart, OwesLocalStart, OwesLocalStop, OwesGlobalStop, step-owes}
-use Rattle.em_log.proofs.Moments.{Moment, DoneMoment, DoneChange, DoneStart, FailedStart, DoneStop, allowed-moment}
+use Rattle.em_moments.proofs.Steps.{Owes, OwesAck, OwesGlobalStart, OwesLocalStart, OwesLocalStop, OwesGlobalStop, step-owes}
+use Rattle.em_moments.proofs.Moments.{Moment, DoneMoment, DoneChange, DoneStart, FailedStart, DoneStop, allowed-moment}
 use Rattle.em_laws.proofs.Cores.{Compared, Same, Other, compared, if-own, none-some, some-inj}
 use Rattle.em_laws.proofs.Acks.{all-acked-has, all-acked-more}
 use Rattle.em_laws.proofs.Begun.{begun-kept}

@@ -5,6 +5,7 @@ use Rattle.em_log.specs.History.{Past}
 use Rattle.em_log.specs.Lawful.{AllAllowed}
 use Rattle.em_log.specs.Laws.{Once}
 use Rattle.em_laws.proofs.Notified.{notified-once}
+use Rattle.em_laws.proofs.Fresh.{starts-next}
 use Rattle.em_laws.proofs.Started.{started-first}
 use Rattle.em_laws.proofs.Entering.{enters-once}
 use Rattle.em_laws.proofs.Sends.{sends-in-turn}
@@ -15,5 +16,6 @@ each-once k l past all = record {
   different = enters-once k l past all;
   sent = sends-in-turn k l past all;
   started = started-first k l past all;
+  renewed = starts-next k l past all;
   notified = notified-once k l past all;
 }

@@ -13,9 +13,10 @@ use Rattle.em_log.specs.Atomic.{is_empty, has_open_after, has_open_take, holder}
 use Rattle.em_log.specs.Eligible.{is_unheld}
 use Rattle.em_log.specs.Lawful.{AllAllowed}
 use Rattle.em_log.specs.Laws.{HasTaken, within, within_after, OnlyHolder, Exclusive}
-use Rattle.em_log.proofs.Asked.{is_none-none}
-use Rattle.em_log.proofs.Choices.{IsReady}
-use Rattle.em_log.proofs.Moments.{Moment, allowed-moment}
+use Rattle.em_moments.proofs.Asked.{is_none-none}
+use Rattle.em_moments.proofs.Choices.{IsReady}
+use Rattle.em_moments.proofs.Steps.{is_number-some}
+use Rattle.em_moments.proofs.Moments.{Moment, allowed-moment}
 use Rattle.em_laws.proofs.Cores.{Compared, Same, Other, compared, eqb-eq, none-some, some-inj, find-below, find-none}
 use Rattle.em_laws.proofs.Served.{drop-some, cons-some}
 
@@ -31,10 +32,6 @@ pub record Held (k : Declarations) (past : Past) : Type 0 where
 data OpenAfter (k : Declarations) (past : Past) (a c d : ℕ) (w : What) : Type 0 where
   OpenBefore : has_open_take k past a c ≡ true → OpenAfter k past a c d w
   OpensNow : (q : ℕ) → d ≡ c → atomic_of k q ≡ Some a → IsReady k past c q → OpenAfter k past a c d w
-
-is_number-some : (n : ℕ) (o : Option ℕ) → is_number n o ≡ true → o ≡ Some n
-is_number-some n None h = absurd cc
-is_number-some n (Some m) h = ap Some (sym (eqb-eq n m h))
 
 own-open : (k : Declarations) (l : Limits) (past : Past) (a c : ℕ) (w : What) → Moment k l past c w
     → has_open_after k a (taken k past c) w (has_open_take k past a c) ≡ true → OpenAfter k past a c c w
@@ -151,7 +148,10 @@ next-queued k l past d w held a c q h is = by_test (compared d c)
 only-holder : (k : Declarations) (past : Past) → Held k past → OnlyHolder k past
 only-holder k past held a c h =
     let opened = held.inside a c h in
-    find-below (has_open_take k past a) c k.cores opened (λ d i. held.only a c d opened i) (held.bounded a c opened)
+    record {
+      holder = find-below (has_open_take k past a) c k.cores opened (λ d i. held.only a c d opened i) (held.bounded a c opened);
+      alone = λ d i. held.only a c d opened i;
+    }
 
 next-held : (k : Declarations) (l : Limits) (past : Past) (d : ℕ) (w : What) → d < k.cores → Moment k l past d w → Held k past → Held k (entry_by d w ∷ past)
 next-held k l past d w lt m held = record {
@@ -173,7 +173,7 @@ held-after k l [] all = record {
 held-after k l (e ∷ past) all =
     next-held k l past e.core.0 e.what all.0.core (allowed-moment k l past e all.1 all.0) (held-after k l past all.1)
 
--- after each entry at most one core is in an atomic context, and it is the holder
+-- after each entry at most one core is in an atomic context, and it alone holds it
 pub exclusive : (k : Declarations) (l : Limits) (past : Past) → AllAllowed k l past → Exclusive k past
 exclusive k l [] all = only-holder k [] (held-after k l [] all)
 exclusive k l (e ∷ past) all = (only-holder k (e ∷ past) (held-after k l (e ∷ past) all), exclusive k l past all.1)

@@ -13,7 +13,7 @@ use Rattle.em_log.specs.Order.{Sent}
 use Rattle.em_log.specs.Arrivals.{Item, item, is_for, entering, with_items, arrivals}
 use Rattle.em_log.specs.Places.{gone, gone_after, waiting}
 use Rattle.em_log.specs.Laws.{Shown, shown_item}
-use Rattle.em_log.proofs.Asked.{and-true}
+use Rattle.em_moments.proofs.Asked.{and-true}
 use Rattle.em_laws.proofs.Cores.{eqb-eq}
 
 pub grows-by : (k : Declarations) (past : Past) (q c : ℕ) (items : List Item) (ss : List Sent) → (ys : List Item) × (with_items k past q c items ss ≡ items ++ ys)

@@ -9,8 +9,8 @@ use Rattle.em_log.specs.History.{Past, entry_by}
 use Rattle.em_log.specs.EventGroups.{applications, busy, is_current}
 use Rattle.em_log.specs.Lawful.{AllAllowed}
 use Rattle.em_log.specs.Laws.{notifies}
-use Rattle.em_log.proofs.Asked.{and-true}
-use Rattle.em_log.proofs.Moments.{Moment, allowed-moment}
+use Rattle.em_moments.proofs.Asked.{and-true}
+use Rattle.em_moments.proofs.Moments.{Moment, allowed-moment}
 use Rattle.em_laws.proofs.Cores.{Compared, Same, Other, compared, eqb-eq}
 
 -- an application that is to come or is current has not notified

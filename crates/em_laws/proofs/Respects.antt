@@ -20,8 +20,8 @@ use Rattle.em_log.specs.Places.{taken}
 use Rattle.em_log.specs.Eligible.{has_core}
 use Rattle.em_log.specs.Leads.{aims_at_object, aims_at_group}
 use Rattle.em_log.specs.Lawful.{AllAllowed}
-use Rattle.em_log.proofs.Choices.{IsReady}
-use Rattle.em_log.proofs.Moments.{Moment, BeginMoment, allowed-moment}
+use Rattle.em_moments.proofs.Choices.{IsReady}
+use Rattle.em_moments.proofs.Moments.{Moment, BeginMoment, allowed-moment}
 use Rattle.em_laws.proofs.Cores.{Compared, Same, Other, compared, if-own, some-inj}
 use Rattle.em_laws.proofs.Served.{Serves, ServesAfter, ServedBefore, TakesNow, serves-after}
 use Rattle.em_laws.proofs.Acks.{AckedAfter, AckedBefore, AcksNow, acked-after, all-acked-has}

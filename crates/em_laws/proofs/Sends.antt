@@ -2,7 +2,7 @@
 use Rattle.std.proofs.Common.{◌≡◌, ◌⊎◌, inl, inr, ℕ, zero, suc, ◌+◌, ◌-◌, ◌≤◌, ◌<◌, ◌==◌, Bool, true, false, ◌||◌, List, [], ◌∷◌, ◌++◌, Option, Some, None, refl, sym, ◌∙◌, subst, ap, if◌then◌else◌, arith}
 use Rattle.std.specs.Prelude.{nat_le}
 use Rattle.std.specs.List.{flat_map}
-use Rattle.std.proofs.lemmas.List.{map-append}
+use Rattle.std.proofs.lemmas.List.{map-append, append_assoc}
 use Rattle.std.proofs.lemmas.Bool.{eq-eqb}
 use Rattle.em_log.specs.declared.declarations.Declarations.{Declarations}
 use Rattle.em_log.specs.declared.entry.Entry.{Entry}
@@ -17,8 +17,8 @@ use Rattle.em_log.specs.Handles.{Minting, minting, Spending, spends, spending}
 use Rattle.em_log.specs.Order.{Ticket, Sent, with_number, ended, takes, released, run_from, open_ticket, ticket_of_send, enters, is_ticket, sends_under, sends_under_all, let_in}
 use Rattle.em_log.specs.Arrivals.{Item, item, is_for, send_entering, entering_by, entering, with_items, arrivals}
 use Rattle.em_log.specs.Lawful.{AllAllowed}
-use Rattle.em_log.specs.Laws.{Each, handles_of, entered_in, EntersInTurn}
-use Rattle.em_log.proofs.Moments.{Moment, SendMoment, allowed-moment}
+use Rattle.em_log.specs.Laws.{Each, handles_of, entered_in, StandsIn, EntersAsSent, EntersInTurn}
+use Rattle.em_moments.proofs.Moments.{Moment, SendMoment, allowed-moment}
 use Rattle.em_laws.proofs.Cores.{Compared, Same, Other, compared, some-inj, none-some}
 use Rattle.em_laws.proofs.Lists.{grows-by, arrivals-grow}
 use Rattle.em_laws.proofs.Counts.{occ-none, entered-in-le}
@@ -58,31 +58,64 @@ has-right h (x ∷ xs) ys e = by_test (x == h) (has-right h xs ys e)
     by_test true later = refl
     by_test false later = later
 
-items-left : (h : ℕ) (xs ys : List Item) → has (handles_of xs) h ≡ true → has (handles_of (xs ++ ys)) h ≡ true
-items-left h xs ys e = rw (map-append (λ (x : Item). x.handle) xs ys) (has-left h (handles_of xs) (handles_of ys) e)
-
 items-right : (h : ℕ) (xs ys : List Item) → has (handles_of ys) h ≡ true → has (handles_of (xs ++ ys)) h ≡ true
 items-right h xs ys e = rw (map-append (λ (x : Item). x.handle) xs ys) (has-right h (handles_of xs) (handles_of ys) e)
 
-item-has : (past : Past) (s : Sent) (m : Minting) → minting past s.handle ≡ Some m → has (handles_of (item past s)) s.handle ≡ true
-item-has past s m is = rw is (rw (eq-eqb s.handle s.handle refl) refl)
+-- it stands in a longer list
+
+stands-left : (xs ys : List Item) (h : ℕ) (s : Option Stamp) → StandsIn xs h s → StandsIn (xs ++ ys) h s
+stands-left xs ys h s a = record {
+  before = a.before;
+  item = a.item;
+  after = a.after ++ ys;
+  list = ap (λ zs. zs ++ ys) a.list ∙ append_assoc a.before (a.item ∷ a.after) ys;
+  handle = a.handle;
+  stamp = a.stamp;
+}
+
+stands-right : (xs ys : List Item) (h : ℕ) (s : Option Stamp) → StandsIn ys h s → StandsIn (xs ++ ys) h s
+stands-right xs ys h s a = record {
+  before = xs ++ a.before;
+  item = a.item;
+  after = a.after;
+  list = ap (λ zs. xs ++ zs) a.list ∙ sym (append_assoc xs a.before (a.item ∷ a.after));
+  handle = a.handle;
+  stamp = a.stamp;
+}
+
+item-stands : (past : Past) (s : Sent) (m : Minting) → minting past s.handle ≡ Some m → StandsIn (item past s) s.handle s.stamp
+item-stands past s m is = record {
+  before = [];
+  item = record { handle = s.handle; kind = m.event.kind; words = m.event.words; stamp = s.stamp };
+  after = [];
+  list = rw is refl;
+  handle = refl;
+  stamp = refl;
+}
+
+-- and its handle is in the list
+stands-has : (xs : List Item) (h : ℕ) (s : Option Stamp) → StandsIn xs h s → has (handles_of xs) h ≡ true
+stands-has xs h s a =
+    subst (λ ys. has (handles_of ys) h ≡ true) (sym a.list)
+    (items-right h a.before (a.item ∷ a.after) (rw (eq-eqb a.item.handle h a.handle) refl))
 
 -- what goes to a list is in it
 goes-in : (k : Declarations) (past : Past) (q c : ℕ) (items : List Item) (ss : List Sent) (s : Sent) (m : Minting) → minting past s.handle ≡ Some m → IsAmong s ss
-    → is_for k q c s.queue s.core ≡ true → has (handles_of (with_items k past q c items ss)) s.handle ≡ true
+    → is_for k q c s.queue s.core ≡ true → StandsIn (with_items k past q c items ss) s.handle s.stamp
 goes-in k past q c items [] s m is a own = absurd a
 goes-in k past q c items (x ∷ xs) s m is (inl e) own =
-    let here : has (handles_of (items ++ item past s)) s.handle ≡ true = items-right s.handle items (item past s) (item-has past s m is) in
+    let here : StandsIn (items ++ item past s) s.handle s.stamp = stands-right items (item past s) s.handle s.stamp (item-stands past s m is) in
     let g = grows-by k past q c (items ++ item past s) xs in
-    let there : has (handles_of (with_items k past q c (items ++ item past s) xs)) s.handle ≡ true =
-    subst (λ ys. has (handles_of ys) s.handle ≡ true) (sym g.1) (items-left s.handle (items ++ item past s) g.0 here) in
-    subst (λ (y : Sent). has (handles_of (with_items k past q c (if is_for k q c y.queue y.core then items ++ item past y else items) xs)) s.handle ≡ true) (sym e) (rw own there)
+    let there : StandsIn (with_items k past q c (items ++ item past s) xs) s.handle s.stamp =
+    subst (λ ys. StandsIn ys s.handle s.stamp) (sym g.1) (stands-left (items ++ item past s) g.0 s.handle s.stamp here) in
+    subst (λ (y : Sent). StandsIn (with_items k past q c (if is_for k q c y.queue y.core then items ++ item past y else items) xs) s.handle s.stamp) (sym e)
+    (subst (λ (b : Bool). StandsIn (with_items k past q c (if b then items ++ item past s else items) xs) s.handle s.stamp) (sym own) there)
 goes-in k past q c items (x ∷ xs) s m is (inr a) own =
     goes-in k past q c (if is_for k q c x.queue x.core then items ++ item past x else items) xs s m is a own
 
-has-kept : (k : Declarations) (past : Past) (e : Entry) (q c h : ℕ) → has (handles_of (arrivals k past q c)) h ≡ true → has (handles_of (arrivals k (e ∷ past) q c)) h ≡ true
-has-kept k past e q c h is =
-    let g = arrivals-grow k past e q c in subst (λ ys. has (handles_of ys) h ≡ true) (sym g.1) (items-left h (arrivals k past q c) g.0 is)
+stands-still : (k : Declarations) (past : Past) (e : Entry) (q c h : ℕ) (s : Option Stamp) → StandsIn (arrivals k past q c) h s → StandsIn (arrivals k (e ∷ past) q c) h s
+stands-still k past e q c h s is =
+    let g = arrivals-grow k past e q c in subst (λ ys. StandsIn ys h s) (sym g.1) (stands-left (arrivals k past q c) g.0 h s is)
 
 among-all : (past : Past) (s : Sent) (q i a n : ℕ) → IsAmong s (sends_under past q i) → a ≤ i → i < a + n → IsAmong s (sends_under_all past q (numbers_from a n))
 among-all past s q i a zero is low high = absurd (omega arith)
@@ -100,7 +133,7 @@ record SendStands (k : Declarations) (past : Past) (h : ℕ) (before : Past) (d 
   origin : Minting
   minted : minting past f.0 ≡ Some origin
   under : (tk : Ticket) → ticket_of_send before d t ≡ Some tk → IsAmong (record { queue = q.0; core = d; handle = f.0; stamp = st }) (sends_under past tk.queue tk.number)
-  inside : enters past (ticket_of_send before d t) ≡ true → (c : ℕ) → is_for k q.0 c q.0 d ≡ true → has (handles_of (arrivals k past q.0 c)) f.0 ≡ true
+  inside : enters past (ticket_of_send before d t) ≡ true → (c : ℕ) → is_for k q.0 c q.0 d ≡ true → StandsIn (arrivals k past q.0 c) f.0 st
 
 abbrev Stands : Declarations → Past → ℕ → Past → ℕ → What → Type 0
 Stands k past h before d (What.Send f q t st) = SendStands k past h before d f q t st
@@ -162,8 +195,8 @@ stands-kept k l past d w h before c f q t st all was =
     rec = record { queue = q.0; core = c; handle = f.0; stamp = st }
 
     by_before : (v : Bool) → enters past (ticket_of_send before c t) ≡ v → (o : Option Ticket) → ticket_of_send before c t ≡ o → enters (entry_by d w ∷ past) (ticket_of_send before c t) ≡ true
-        → (b : ℕ) → is_for k q.0 b q.0 c ≡ true → has (handles_of (arrivals k (entry_by d w ∷ past) q.0 b)) f.0 ≡ true
-    by_before true on o is after b own = has-kept k past (entry_by d w) q.0 b f.0 (was.inside on b own)
+        → (b : ℕ) → is_for k q.0 b q.0 c ≡ true → StandsIn (arrivals k (entry_by d w ∷ past) q.0 b) f.0 st
+    by_before true on o is after b own = stands-still k past (entry_by d w) q.0 b f.0 st (was.inside on b own)
     by_before false off None is after b own = absurd (cc (off, ap (enters past) is))
     by_before false off (Some tk) is after b own =
         let a = comes-in k l past d w tk rec all (was.under tk is) (sym (ap (enters past) is) ∙ off) (sym (ap (enters (entry_by d w ∷ past)) is) ∙ after) in
@@ -240,9 +273,9 @@ has-all h i f a (suc n) is low high = by_test (compared a i) (has-all h i f (suc
     by_test (Same _ e) later = has-left h (f a) _ (ap (λ j. has (f j) h) e ∙ is)
     by_test (Other _ ne) later = has-right h (f a) _ (later (omega (arith, ne)) (omega arith))
 
-send-turn : (k : Declarations) (l : Limits) (now before : Past) (d : ℕ) (f : Handle) (q : QueueId) (t : Option ℕ) (st : Option Stamp) → AllAllowed k l now
-    → spending now f.0 ≡ Some (record { before = before; core = d; what = What.Send f q t st }) → has (entered_in k now q.0) f.0 ≡ enters now (ticket_of_send before d t)
-send-turn k l now before d f q t st all is = by_enters (enters now (ticket_of_send before d t)) refl
+as-sent : (k : Declarations) (l : Limits) (now before : Past) (d : ℕ) (f : Handle) (q : QueueId) (t : Option ℕ) (st : Option Stamp) → AllAllowed k l now
+    → spending now f.0 ≡ Some (record { before = before; core = d; what = What.Send f q t st }) → EntersAsSent k now before d f.0 q.0 t st
+as-sent k l now before d f q t st all is = record { turn = by_enters (enters now (ticket_of_send before d t)) refl; stands = s.inside }
   where
     s : SendStands k now f.0 before d f q t st
     s = stands k l now all f.0 _ is
@@ -251,8 +284,8 @@ send-turn k l now before d f q t st all is = by_enters (enters now (ticket_of_se
         → has (if b then flat_map (λ c. handles_of (arrivals k now q.0 c)) (below k.cores) else handles_of (arrivals k now q.0 0)) f.0 ≡ true
     by_kind on true local =
         has-all f.0 d (λ c. handles_of (arrivals k now q.0 c)) 0 k.cores
-        (s.inside on d (rw (local, eq-eqb q.0 q.0 refl, eq-eqb d d refl) refl)) (omega arith) (let lt = s.core in omega (arith, lt))
-    by_kind on false plain = s.inside on 0 (rw (plain, eq-eqb q.0 q.0 refl) refl)
+        (stands-has (arrivals k now q.0 d) f.0 st (s.inside on d (rw (local, eq-eqb q.0 q.0 refl, eq-eqb d d refl) refl))) (omega arith) (let lt = s.core in omega (arith, lt))
+    by_kind on false plain = stands-has (arrivals k now q.0 0) f.0 st (s.inside on 0 (rw (plain, eq-eqb q.0 q.0 refl) refl))
 
     by_enters : (b : Bool) → enters now (ticket_of_send before d t) ≡ b → has (entered_in k now q.0) f.0 ≡ b
     by_enters true on = by_kind on (is_local (kind_of k q.0)) refl
@@ -266,7 +299,7 @@ turn : (k : Declarations) (l : Limits) (now before : Past) (d : ℕ) (w : What) 
     → ((h : ℕ) (s : Spending) → spending (entry_by d w ∷ before) h ≡ Some s → spending now h ≡ Some s) → EntersInTurn k now before d w
 turn k l now before d (What.Send f q t st) all m kept =
     let u = usable before d f.0 m.rule in
-    send-turn k l now before d f q t st all (kept f.0 _ (spends-now before d (What.Send f q t st) f.0 u.unspent (rw (eq-eqb f.0 f.0 refl) refl)))
+    as-sent k l now before d f q t st all (kept f.0 _ (spends-now before d (What.Send f q t st) f.0 u.unspent (rw (eq-eqb f.0 f.0 refl) refl)))
 turn k l now before d w all m kept = tt
 
 turns : (k : Declarations) (l : Limits) (now past : Past) → AllAllowed k l now → AllAllowed k l past
@@ -277,6 +310,6 @@ turns k l now (e ∷ past) all here kept = (
   turns k l now past all here.1 (λ h s is. kept h s (spending-kept past e.core.0 e.what h s is)),
 )
 
--- each send has entered its queue exactly where the tickets before it have ended
+-- each send has entered its queue exactly where the tickets before it have ended, as it was sent
 pub sends-in-turn : (k : Declarations) (l : Limits) (past : Past) → AllAllowed k l past → Each (EntersInTurn k past) past
 sends-in-turn k l past all = turns k l past past all all (λ h s is. is)

@@ -8,8 +8,8 @@ use Rattle.em_log.specs.Contexts.{context, context_after, received_queue, take_q
 use Rattle.em_log.specs.Arrivals.{Item}
 use Rattle.em_log.specs.Places.{taken, taken_after}
 use Rattle.em_log.specs.Laws.{Receives, HasTaken}
-use Rattle.em_log.proofs.Choices.{IsReady}
-use Rattle.em_log.proofs.Moments.{Moment}
+use Rattle.em_moments.proofs.Choices.{IsReady}
+use Rattle.em_moments.proofs.Moments.{Moment}
 use Rattle.em_laws.proofs.Cores.{Compared, Same, Other, compared, none-some, some-inj}
 
 -- core c has an open receive of queue q, or has taken events of it

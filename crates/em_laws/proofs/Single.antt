@@ -13,9 +13,9 @@ use Rattle.em_log.specs.Places.{taken, taken_after}
 use Rattle.em_log.specs.Tails.{start_of, first_start, tail}
 use Rattle.em_log.specs.Lawful.{Allowed, AllAllowed, IsNext, due, due_after}
 use Rattle.em_log.specs.Laws.{HasTaken}
-use Rattle.em_log.proofs.Follows.{Follows, FirstStart, Outs, NoteLost, AcksStart, AcksStop, GlobalStarts, GlobalStops, ChangeDone, StartDone, StartFailed, StopDone, Notifies, AllDue}
-use Rattle.em_log.proofs.Inversion.{due-follows}
-use Rattle.em_log.proofs.Moments.{Moment, allowed-moment}
+use Rattle.em_moments.proofs.Follows.{Follows, FirstStart, Outs, NoteLost, AcksStart, AcksStop, GlobalStarts, GlobalStops, ChangeDone, StartDone, StartFailed, StopDone, Notifies, AllDue}
+use Rattle.em_moments.proofs.Inversion.{due-follows}
+use Rattle.em_moments.proofs.Moments.{Moment, allowed-moment}
 use Rattle.em_laws.proofs.Cores.{Compared, Same, Other, compared, if-own, some-inj}
 use Rattle.em_laws.proofs.Served.{drop-some}
 

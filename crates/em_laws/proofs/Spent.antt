@@ -18,8 +18,8 @@ use Rattle.em_log.specs.EventGroups.{applications, busy, is_current, applied_not
 use Rattle.em_log.specs.Places.{application_end}
 use Rattle.em_log.specs.Leads.{notes_refusal}
 use Rattle.em_log.specs.Lawful.{AllAllowed}
-use Rattle.em_log.proofs.Asked.{and-true}
-use Rattle.em_log.proofs.Moments.{Moment, BeginMoment, allowed-moment}
+use Rattle.em_moments.proofs.Asked.{and-true}
+use Rattle.em_moments.proofs.Moments.{Moment, BeginMoment, allowed-moment}
 use Rattle.em_laws.proofs.Cores.{Compared, Same, Other, compared, eqb-eq}
 use Rattle.em_laws.proofs.Begun.{BegunAfter, BegunBefore, BeginsNow, begun-after}
 use Rattle.em_laws.proofs.Counts.{occ}

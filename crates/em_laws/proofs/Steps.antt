@@ -15,8 +15,8 @@ use Rattle.em_log.specs.Operations.{Operation, operation, global_done, acked, al
 use Rattle.em_log.specs.Places.{taken, taken_after}
 use Rattle.em_log.specs.Lawful.{AllAllowed}
 use Rattle.em_log.specs.Laws.{Always}
-use Rattle.em_log.proofs.Steps.{Owes, OwesAck, OwesGlobalStart, OwesLocalStart, OwesLocalStop, OwesGlobalStop}
-use Rattle.em_log.proofs.Moments.{Moment, EnterMoment, EntersBoot, EntersStep, AckMoment, AckChange, AckStart, AckStop, GlobalDoneMoment, GlobalStartDone, GlobalStopDone, allowed-moment}
+use Rattle.em_moments.proofs.Steps.{Owes, OwesAck, OwesGlobalStart, OwesLocalStart, OwesLocalStop, OwesGlobalStop}
+use Rattle.em_moments.proofs.Moments.{Moment, EnterMoment, EntersBoot, EntersStep, AckMoment, AckChange, AckStart, AckStop, GlobalDoneMoment, GlobalStartDone, GlobalStopDone, allowed-moment}
 use Rattle.em_laws.proofs.Cores.{Compared, Same, Other, compared, if-own, none-some, some-inj}
 use Rattle.em_laws.proofs.Acks.{AckedAfter, AckedBefore, AcksNow, acked-after, all-acked-more, last-kept, last-all}
 use Rattle.em_laws.proofs.Begun.{begun-kept}

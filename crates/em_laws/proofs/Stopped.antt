@@ -13,8 +13,8 @@ use Rattle.em_log.specs.Operations.{Operation, operation}
 use Rattle.em_log.specs.States.{state, state_begun, state_done}
 use Rattle.em_log.specs.Lawful.{AllAllowed}
 use Rattle.em_log.specs.Laws.{Always, Each, stopped_by, is_stopped, NotStopped, NoneOfStopped, StoppedIsQuiet, StopQuiet}
-use Rattle.em_log.proofs.Choices.{IsReady}
-use Rattle.em_log.proofs.Moments.{Moment, allowed-moment}
+use Rattle.em_moments.proofs.Choices.{IsReady}
+use Rattle.em_moments.proofs.Moments.{Moment, allowed-moment}
 use Rattle.em_laws.proofs.Cores.{Compared, Same, Other, compared, some-inj}
 use Rattle.em_laws.proofs.Served.{Serves, ServesAfter, ServedBefore, TakesNow, serves-after, cons-some}
 use Rattle.em_laws.proofs.Dones.{Completes, CompletesChange, CompletesStart, FailsStart, CompletesStop, done-completes}

@@ -15,7 +15,7 @@ use Rattle.em_log.specs.Declarations.{kind_of, is_ordered, numbers_from}
 use Rattle.em_log.specs.Handles.{Spending, spending, rule}
 use Rattle.em_log.specs.Order.{Ticket, Sent, takes_after, takes, ticket_after, open_ticket, with_number, ended_after, ended, run_from, released, ticket_of_send, enters, is_ticket, sends_after, sends_under, sends_under_all, let_in}
 use Rattle.em_log.specs.Lawful.{AllAllowed}
-use Rattle.em_log.proofs.Moments.{Moment, SendMoment, allowed-moment}
+use Rattle.em_moments.proofs.Moments.{Moment, SendMoment, allowed-moment}
 use Rattle.em_laws.proofs.Cores.{Compared, Same, Other, compared, none-some, some-inj}
 use Rattle.em_laws.proofs.Acks.{has-cons}
 use Rattle.em_laws.proofs.Counts.{times, times-append}

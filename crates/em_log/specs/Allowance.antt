@@ -1,5 +1,5 @@
 -- What is left to an open context of the entries that its asks may cause.
-use Rattle.std.specs.Prelude.{ℕ, ◌+◌, ◌-◌, List, length}
+use Rattle.std.specs.Prelude.{ℕ, ◌+◌, ◌-◌, length}
 use Rattle.std.specs.List.{sum_by}
 use Rattle.em_log.specs.declared.declarations.Declarations.{Declarations}
 use Rattle.em_log.specs.declared.ask.Ask.{Ask}

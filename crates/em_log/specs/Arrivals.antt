@@ -1,5 +1,5 @@
 -- What has entered each queue, in order.
-use Rattle.std.specs.Prelude.{ℕ, ◌==◌, Bool, true, false, not, ◌&&◌, ◌||◌, List, [], ◌∷◌, ◌++◌, Option, Some, None, if◌then◌else◌, is_none}
+use Rattle.std.specs.Prelude.{ℕ, ◌==◌, Bool, true, not, ◌&&◌, ◌||◌, List, [], ◌∷◌, ◌++◌, Option, Some, None, if◌then◌else◌}
 use Rattle.em_log.specs.declared.declarations.Declarations.{Declarations}
 use Rattle.em_log.specs.declared.entry.Entry.{Entry}
 use Rattle.em_log.specs.declared.entry.What.{What}
@@ -13,13 +13,22 @@ use Rattle.em_log.specs.States.{closed}
 use Rattle.em_log.specs.Order.{Sent, open_ticket, ticket_of_send, enters, let_in}
 use Rattle.em_log.specs.EventGroups.{applied_notes}
 
+abbrev pub note_sent : ℕ → Note → Sent
+note_sent d n = record { queue = n.queue.0; core = d; handle = n.word; stamp = None }
+
+-- what a note lets in at completion by core d: nothing where its queue is closed
+abbrev pub note_entering : ℕ → Note → Option ℕ → Option Sent
+note_entering d n None = Some (note_sent d n)
+note_entering d n (Some why) = None
+
+abbrev pub with_sent : Option Sent → List Sent → List Sent
+with_sent None ss = ss
+with_sent (Some s) ss = s ∷ ss
+
 -- the notes whose queue is open, in order, as completed by core d: now is the history with the completing entry
 abbrev pub open_notes : Declarations → Past → ℕ → List Note → List Sent
 open_notes k now d [] = []
-open_notes k now d (n ∷ ns) =
-    if is_none (closed k now n.queue.0)
-    then record { queue = n.queue.0; core = d; handle = n.word; stamp = None } ∷ open_notes k now d ns
-    else open_notes k now d ns
+open_notes k now d (n ∷ ns) = with_sent (note_entering d n (closed k now n.queue.0)) (open_notes k now d ns)
 
 abbrev pub send_entering : Past → ℕ → What → List Sent
 send_entering past d (What.Send h q t stamp) =

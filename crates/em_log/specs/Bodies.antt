@@ -1,6 +1,6 @@
 -- How a body is followed: each ask, the entry that answers it, and the environment that this leaves.
 use mathlib.Core.Former.{Count}
-use Rattle.std.specs.Prelude.{ℕ, zero, suc, ◌+◌, ◌%◌, ◌^◌, ◌==◌, Bool, true, false, List, [], ◌∷◌, ◌++◌, length, Option, Some, None, if◌then◌else◌, slice_set, ◌≡◌}
+use Rattle.std.specs.Prelude.{ℕ, zero, suc, ◌%◌, ◌^◌, List, [], ◌∷◌, ◌++◌, Option, Some, None, slice_set}
 use Rattle.em_log.specs.declared.body.Expr.{Expr}
 use Rattle.em_log.specs.declared.body.Stmt.{Stmt}
 use Rattle.em_log.specs.declared.body.Stmt.TheBlock.{Row_of-Stmt, end_of-Stmt, more_of-Stmt}
@@ -11,7 +11,7 @@ use Rattle.em_log.specs.declared.fault.Fault.{Fault}
 use Rattle.em_log.specs.declared.ids.Note.{Note}
 use Rattle.em_log.specs.declared.ids.QueueId.{QueueId}
 use Rattle.em_log.specs.declared.ids.Cells.{Cells}
-use Rattle.em_log.specs.Expressions.{Env, Current, value, values, with_var, no_vars, fault_number, fault_detail}
+use Rattle.em_log.specs.Expressions.{Env, value, values, with_var, no_vars, fault_number, fault_detail}
 
 -- an ask and its entry
 pub record Pair : Type 0 where

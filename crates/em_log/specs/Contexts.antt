@@ -1,14 +1,13 @@
 -- The open context of a core, its object, and boot.
-use Rattle.std.specs.Prelude.{ℕ, ◌==◌, Bool, true, false, ◌||◌, List, [], ◌∷◌, Option, Some, None, if◌then◌else◌}
+use Rattle.std.specs.Prelude.{ℕ, ◌==◌, Bool, true, false, [], ◌∷◌, Option, Some, None, if◌then◌else◌}
 use Rattle.std.specs.Option.{option_and_then}
 use Rattle.em_log.specs.declared.declarations.Declarations.{Declarations}
-use Rattle.em_log.specs.declared.entry.Entry.{Entry}
 use Rattle.em_log.specs.declared.entry.What.{What}
 use Rattle.em_log.specs.declared.entry.Body.{Body}
 use Rattle.em_log.specs.declared.entry.Begun.{Begun}
 use Rattle.em_log.specs.History.{Past}
 use Rattle.em_log.specs.Declarations.{object_of}
-use Rattle.em_log.specs.Operations.{Operation, operation}
+use Rattle.em_log.specs.Operations.{operation}
 
 abbrev pub context_after : What → Option What → Option What
 context_after (What.Enter b) was = Some (What.Enter b)

@@ -1,5 +1,5 @@
 -- Which queues a core may take from, which it takes from, and how many events.
-use Rattle.std.specs.Prelude.{ℕ, ◌-◌, ◌^◌, ◌==◌, Bool, true, false, not, ◌&&◌, ◌||◌, nat_lt, nat_le, min, List, [], ◌∷◌, length, Option, Some, None, if◌then◌else◌, is_none, bit_and}
+use Rattle.std.specs.Prelude.{ℕ, ◌-◌, ◌^◌, ◌==◌, Bool, true, false, not, ◌&&◌, ◌||◌, nat_lt, nat_le, min, length, Option, Some, None, if◌then◌else◌, is_none, bit_and}
 use Rattle.std.specs.List.{list_all, list_any}
 use Rattle.std.specs.Option.{option_map_or}
 use Rattle.em_log.specs.declared.declarations.Declarations.{Declarations}

@@ -1,5 +1,5 @@
 -- Minted, held and spent handles, and the rule by which a word may be used.
-use Rattle.std.specs.Prelude.{ℕ, zero, suc, ◌+◌, ◌==◌, Bool, true, false, List, [], ◌∷◌, ◌++◌, length, Option, Some, None, if◌then◌else◌}
+use Rattle.std.specs.Prelude.{ℕ, suc, ◌+◌, ◌==◌, Bool, true, false, List, [], ◌∷◌, ◌++◌, length, Option, Some, None, if◌then◌else◌}
 use Rattle.em_log.specs.declared.entry.Entry.{Entry}
 use Rattle.em_log.specs.declared.entry.What.{What}
 use Rattle.em_log.specs.declared.entry.Event.{Event}
@@ -36,14 +36,14 @@ abbrev pub minting : Past → ℕ → Option Minting
 minting [] h = None
 minting (e ∷ past) h = minting_by h e.core.0 (minted_in e.what) (minting past h)
 
-abbrev pub last_handle_by : ℕ → ℕ → Option Event → Option ℕ → Option ℕ
-last_handle_by i c None was = was
-last_handle_by i c (Some e) was = if index_of e.handle.0 == i then Some e.handle.0 else was
+abbrev pub last_handle_by : ℕ → Option Event → Option ℕ → Option ℕ
+last_handle_by i None was = was
+last_handle_by i (Some e) was = if index_of e.handle.0 == i then Some e.handle.0 else was
 
 -- the handle of the last minting of this index
 abbrev pub last_handle : Past → ℕ → Option ℕ
 last_handle [] i = None
-last_handle (e ∷ past) i = last_handle_by i e.core.0 (minted_in e.what) (last_handle past i)
+last_handle (e ∷ past) i = last_handle_by i (minted_in e.what) (last_handle past i)
 
 -- held
 

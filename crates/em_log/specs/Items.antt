@@ -11,11 +11,11 @@ pub record Fixed : Type 0 where
   pub limits : Limits
 
 -- an entry of the history, or the mark of a halt with the core that halted
-pub data Item : Type 0 where
-  Logged : Entry → Item
-  Halted : CoreId → Item
+pub data LogItem : Type 0 where
+  Logged : Entry → LogItem
+  Halted : CoreId → LogItem
 
 -- the number of an item is that of its core
-abbrev pub number_of : Item → ℕ
+abbrev pub number_of : LogItem → ℕ
 number_of (Logged e) = e.core.0
 number_of (Halted c) = c.0

@@ -1,5 +1,5 @@
 -- Which entry may come next, and which histories are lawful.
-use Rattle.std.specs.Prelude.{ℕ, suc, ◌+◌, ◌^◌, ◌≡◌, ◌<◌, ◌==◌, Bool, true, false, not, ◌&&◌, nat_lt, nat_le, List, [], ◌∷◌, length, Option, Some, None, if◌then◌else◌, is_none, is_some, IsTrue}
+use Rattle.std.specs.Prelude.{ℕ, suc, ◌^◌, ◌≡◌, ◌<◌, ◌==◌, Bool, true, false, not, ◌&&◌, nat_lt, nat_le, List, [], ◌∷◌, length, Option, Some, None, if◌then◌else◌, is_none, is_some, IsTrue}
 use Rattle.std.specs.List.{list_all}
 use Rattle.std.specs.Option.{option_map_or}
 use Rattle.em_log.specs.declared.declarations.Declarations.{Declarations}
@@ -36,27 +36,55 @@ due k (e ∷ past) = due_after (due k past) (tail k past e)
 abbrev pub is_queue : Declarations → ℕ → Bool
 is_queue k q = nat_lt q (length k.queues)
 
-abbrev pub are_notes : Declarations → List Note → Bool
-are_notes k notes = nat_le (length notes) 8 && list_all (λ n. is_queue k n.queue.0) notes
+abbrev pub have_queues : Declarations → List Note → Bool
+have_queues k notes = list_all (λ n. is_queue k n.queue.0) notes
 
-abbrev pub are_cells : Cells → Bool
-are_cells cells = length cells.0 == 8
-
--- each name in the ask is declared, and its parts fit their types
+-- each name in the ask is declared
 abbrev pub is_declared : Declarations → Ask → Bool
-is_declared k (Ask.Alloc p kind words) = nat_lt p.0 (length k.pools) && nat_lt kind (2 ^ 32) && nat_le (length words) 16
+is_declared k (Ask.Alloc p kind words) = nat_lt p.0 (length k.pools)
 is_declared k (Ask.Send w q g) = is_queue k q.0 && option_map_or (λ e. nat_lt e.0 k.egroups) g true
 is_declared k (Ask.Dequeue q) = is_queue k q.0
 is_declared k (Ask.Enable q) = is_queue k q.0
 is_declared k (Ask.Disable q) = is_queue k q.0
-is_declared k (Ask.EndAtomic cells) = are_cells cells
-is_declared k (Ask.Apply g n notes) = nat_lt g.0 k.egroups && are_notes k notes
+is_declared k (Ask.Apply g n notes) = nat_lt g.0 k.egroups && have_queues k notes
 is_declared k (Ask.Abort g) = nat_lt g.0 k.egroups
-is_declared k (Ask.Start x notes) = nat_lt x.0 (length k.running) && are_notes k notes
-is_declared k (Ask.Stop x notes) = nat_lt x.0 (length k.running) && are_notes k notes
-is_declared k (Ask.Modify g m notes) = nat_le g.0 (length k.groups) && are_notes k notes
-is_declared k (Ask.End cells) = option_map_or are_cells cells true
+is_declared k (Ask.Start x notes) = nat_lt x.0 (length k.running) && have_queues k notes
+is_declared k (Ask.Stop x notes) = nat_lt x.0 (length k.running) && have_queues k notes
+is_declared k (Ask.Modify g m notes) = nat_le g.0 (length k.groups) && have_queues k notes
 is_declared k ask = true
+
+-- a number of 64 bits
+abbrev pub is_word : ℕ → Bool
+is_word n = nat_lt n (2 ^ 64)
+
+abbrev pub are_words : List ℕ → Bool
+are_words words = nat_le (length words) 16 && list_all is_word words
+
+abbrev pub are_notes : List Note → Bool
+are_notes notes = nat_le (length notes) 8 && list_all (λ n. is_word n.word) notes
+
+abbrev pub are_cells : Cells → Bool
+are_cells cells = (length cells.0 == 8) && list_all is_word cells.0
+
+-- the ask has what its type has: its numbers are in range, and its lists no longer than they may be
+abbrev pub is_typed : Ask → Bool
+is_typed (Ask.Alloc p kind words) = nat_lt kind (2 ^ 32) && are_words words
+is_typed (Ask.Free w) = is_word w
+is_typed (Ask.Send w q g) = is_word w
+is_typed (Ask.Keep w) = is_word w
+is_typed (Ask.Say v) = is_word v
+is_typed (Ask.EndAtomic cells) = are_cells cells
+is_typed (Ask.Apply g n notes) = is_word n && are_notes notes
+is_typed (Ask.Increment n) = is_word n
+is_typed (Ask.Start x notes) = are_notes notes
+is_typed (Ask.Stop x notes) = are_notes notes
+is_typed (Ask.Modify g m notes) = is_word m && are_notes notes
+is_typed (Ask.End cells) = option_map_or are_cells cells true
+is_typed ask = true
+
+-- the ask is one that the graph has
+abbrev pub is_ask : Declarations → Ask → Bool
+is_ask k a = is_declared k a && is_typed a
 
 abbrev pub is_boot_or_receive : Option What → Bool
 is_boot_or_receive (Some (What.Enter Body.Boot)) = true
@@ -81,7 +109,7 @@ is_placed context atomic ask = true
 
 -- core c has an open context, in which the ask may stand
 abbrev pub may_ask : Declarations → Past → ℕ → Ask → Bool
-may_ask k past c a = is_some (context past c) && is_declared k a && is_placed (context past c) (holds k past c) a
+may_ask k past c a = is_some (context past c) && is_ask k a && is_placed (context past c) (holds k past c) a
 
 -- entries
 

@@ -1,20 +1,19 @@
 -- Four laws that a person can hold against any history, without knowing how one comes about.
 use Rattle.std.specs.Prelude.{ℕ, suc, ◌≤◌, ◌≡◌, ◌≢◌, ◌==◌, Bool, true, false, ◌&&◌, ◌⊎◌, List, [], ◌∷◌, ◌++◌, length, map, take, Option, Some, None, if◌then◌else◌, IsTrue}
 use Rattle.std.specs.List.{flat_map}
-use Rattle.std.specs.Option.{option_map_or, option_and_then}
 use Rattle.em_log.specs.declared.declarations.Declarations.{Declarations}
-use Rattle.em_log.specs.declared.entry.Entry.{Entry}
 use Rattle.em_log.specs.declared.entry.What.{What}
 use Rattle.em_log.specs.declared.entry.Begun.{Begun}
 use Rattle.em_log.specs.declared.ids.Stamp.{Stamp}
 use Rattle.em_log.specs.History.{Past, has, index_of}
-use Rattle.em_log.specs.Declarations.{below, is_number, kind_of, is_local, object_of, group_of, atomic_of}
+use Rattle.em_log.specs.Declarations.{below, kind_of, is_local, object_of, group_of, atomic_of}
 use Rattle.em_log.specs.Contexts.{receives_from, take_queue}
-use Rattle.em_log.specs.Operations.{operation}
+use Rattle.em_log.specs.Handles.{next_handle}
+use Rattle.em_log.specs.Operations.{by_job}
 use Rattle.em_log.specs.Order.{enters, ticket_of_send}
 use Rattle.em_log.specs.Arrivals.{Item, arrivals, is_for}
 use Rattle.em_log.specs.Places.{taken}
-use Rattle.em_log.specs.Atomic.{holder}
+use Rattle.em_log.specs.Atomic.{holder, has_open_take}
 use Rattle.em_log.specs.Eligible.{has_core}
 
 -- P holds after each entry
@@ -43,7 +42,7 @@ stopped_by x (Begun.Stop y) true was = if y.0 == x then true else was
 stopped_by x job ok was = was
 
 abbrev pub stopped_after : Past → ℕ → What → Bool → Bool
-stopped_after past x (What.Done op ok) was = option_map_or (λ o. stopped_by x o.job ok was) (operation past op.0) was
+stopped_after past x (What.Done op ok) was = by_job past op (λ j. stopped_by x j ok was) was
 stopped_after past x w was = was
 
 -- a stop of the object has completed, and no start of it since
@@ -76,7 +75,7 @@ settled_by g (Begun.Modify h new) true was = if h.0 == g then Some new else was
 settled_by g job ok was = was
 
 abbrev pub settled_after : Past → ℕ → What → Option ℕ → Option ℕ
-settled_after past g (What.Done op ok) was = option_map_or (λ o. settled_by g o.job ok was) (operation past op.0) was
+settled_after past g (What.Done op ok) was = by_job past op (λ j. settled_by g j ok was) was
 settled_after past g w was = was
 
 -- the mask of the group's last change that has completed, if one has
@@ -115,11 +114,16 @@ abbrev pub within : Declarations → Past → ℕ → Option ℕ
 within k [] c = None
 within k (e ∷ past) c = if e.core.0 == c then within_after k e.what (within k past c) else within k past c
 
--- a core whose receive is in an atomic context is its holder
-abbrev pub OnlyHolder : Declarations → Past → Type 0
-OnlyHolder k past = (a c : ℕ) → within k past c ≡ Some a → holder k past a ≡ Some c
+-- core c is the holder of the atomic context, and no other core has a take of it that is not closed
+pub record HoldsAlone (k : Declarations) (past : Past) (a c : ℕ) : Type 0 where
+  pub holder : holder k past a ≡ Some c
+  pub alone : (d : ℕ) → has_open_take k past a d ≡ true → d ≡ c
 
--- after each entry at most one core is in an atomic context, and it is the holder
+-- a core whose receive is in an atomic context holds it alone
+abbrev pub OnlyHolder : Declarations → Past → Type 0
+OnlyHolder k past = (a c : ℕ) → within k past c ≡ Some a → HoldsAlone k past a c
+
+-- after each entry at most one core is in an atomic context, and it is the holder; no other has an open take of it
 abbrev pub Exclusive : Declarations → Past → Type 0
 Exclusive k = Always (OnlyHolder k)
 
@@ -142,9 +146,23 @@ abbrev pub AreDifferent : List ℕ → Type 0
 AreDifferent [] = Unit {0}
 AreDifferent (h ∷ hs) = (has hs h ≡ false) × AreDifferent hs
 
--- a send has entered its queue exactly where it has no ticket, or one that comes first now
+-- an item with this handle and this stamp stands in the list
+pub record StandsIn (items : List Item) (h : ℕ) (s : Option Stamp) : Type 0 where
+  pub before : List Item
+  pub item : Item
+  pub after : List Item
+  pub list : items ≡ before ++ item ∷ after
+  pub handle : item.handle ≡ h
+  pub stamp : item.stamp ≡ s
+
+-- a send of core d has entered its queue exactly where it has no ticket, or one that comes first now, and then it stands
+-- with its stamp in the list that it goes to
+pub record EntersAsSent (k : Declarations) (now past : Past) (d h q : ℕ) (t : Option ℕ) (s : Option Stamp) : Type 0 where
+  pub turn : has (entered_in k now q) h ≡ enters now (ticket_of_send past d t)
+  pub stands : IsTrue (enters now (ticket_of_send past d t)) → (c : ℕ) → IsTrue (is_for k q c q d) → StandsIn (arrivals k now q c) h s
+
 abbrev pub EntersInTurn : Declarations → Past → Past → ℕ → What → Type 0
-EntersInTurn k now past d (What.Send h q t s) = has (entered_in k now q.0) h.0 ≡ enters now (ticket_of_send past d t)
+EntersInTurn k now past d (What.Send h q t s) = EntersAsSent k now past d h.0 q.0 t s
 EntersInTurn k now past d w = Unit {0}
 
 -- what a start shows of its event: all but the generation
@@ -173,15 +191,21 @@ abbrev pub notifies_after : ℕ → ℕ → What → ℕ → ℕ
 notifies_after g a (What.Notify h b) n = if (h.0 == g) && (b == a) then suc n else n
 notifies_after g a w n = n
 
+-- a start mints the next handle of its event
+abbrev pub StartsNext : Past → ℕ → What → Type 0
+StartsNext past d (What.Start q e s) = e.handle.0 ≡ next_handle past (index_of e.handle.0)
+StartsNext past d w = Unit {0}
+
 -- how often an application has notified
 abbrev pub notifies : Past → ℕ → ℕ → ℕ
 notifies [] g a = 0
 notifies (e ∷ past) g a = notifies_after g a e.what (notifies past g a)
 
--- no handle enters twice; each send enters exactly when the tickets before it have ended; the starts of a list are
--- its first arrivals, in order; and each application notifies at most once
+-- no handle enters twice; each send enters exactly when the tickets before it have ended, as it was sent; the starts of
+-- a list are its first arrivals, in order, each under the next handle; and each application notifies at most once
 pub record Once (k : Declarations) (past : Past) : Type 0 where
   pub different : AreDifferent (entered_in_all k past)
   pub sent : Each (EntersInTurn k past) past
   pub started : (q c : ℕ) → starts k past q c ≡ take (length (starts k past q c)) (map shown_item (arrivals k past q c))
+  pub renewed : Each StartsNext past
   pub notified : (g a : ℕ) → notifies past g a ≤ 1

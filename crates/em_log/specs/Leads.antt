@@ -1,5 +1,5 @@
 -- The entry that an ask gives: the fault of the first refusal that holds, or the ask's own entry.
-use Rattle.std.specs.Prelude.{ℕ, ◌+◌, ◌^◌, ◌==◌, Bool, true, false, not, ◌&&◌, ◌||◌, nat_lt, nat_le, List, [], ◌∷◌, length, Option, Some, None, if◌then◌else◌, is_none, unwrap_or}
+use Rattle.std.specs.Prelude.{ℕ, ◌+◌, ◌^◌, ◌==◌, Bool, false, not, ◌||◌, nat_lt, nat_le, List, [], ◌∷◌, length, Option, Some, None, if◌then◌else◌, is_none, unwrap_or}
 use Rattle.std.specs.Option.{option_or, option_map, option_map_or}
 use Rattle.em_log.specs.declared.declarations.Declarations.{Declarations}
 use Rattle.em_log.specs.declared.ask.Ask.{Ask}
@@ -15,13 +15,14 @@ use Rattle.em_log.specs.declared.ids.EoId.{EoId}
 use Rattle.em_log.specs.declared.ids.OpId.{OpId}
 use Rattle.em_log.specs.declared.ids.EoState.{EoState}
 use Rattle.em_log.specs.declared.ids.EventGroupId.{EventGroupId}
+use Rattle.em_log.specs.Bounds.{operation_limit}
 use Rattle.em_log.specs.History.{Past, index_of, has}
 use Rattle.em_log.specs.Declarations.{kind_of, is_unscheduled, is_served, words_of_pool, indices_of_pool}
 use Rattle.em_log.specs.Contexts.{context, context_object}
 use Rattle.em_log.specs.Handles.{Minting, held, minting, next_handle, rule}
 use Rattle.em_log.specs.Operations.{operations, pending, op_id}
 use Rattle.em_log.specs.States.{state, closed}
-use Rattle.em_log.specs.Order.{Ticket, open_ticket}
+use Rattle.em_log.specs.Order.{open_ticket}
 use Rattle.em_log.specs.Arrivals.{Item}
 use Rattle.em_log.specs.Places.{waiting, taken, kept, first_free, live}
 use Rattle.em_log.specs.Atomic.{holds}
@@ -147,10 +148,6 @@ abbrev pub abort_refusal : Past → EventGroupId → Option Fault
 abort_refusal past g = if busy past g.0 then None else Some (Fault.GroupIdle g)
 
 -- operations
-
--- the greatest number of operations of a run
-abbrev pub operation_limit : ℕ
-operation_limit = 256
 
 abbrev pub aims_at_object : ℕ → Begun → Bool
 aims_at_object x (Begun.Start y) = y.0 == x

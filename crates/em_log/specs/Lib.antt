@@ -1,4 +1,5 @@
 pub mod formers
+pub mod Bounds
 pub mod Declarations
 pub mod Items
 pub mod History

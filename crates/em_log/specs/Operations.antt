@@ -1,16 +1,15 @@
 -- Operations: how they begin and end, and what each core owes to them.
-use Rattle.std.specs.Prelude.{ℕ, zero, suc, ◌==◌, Bool, true, false, not, ◌&&◌, List, [], ◌∷◌, Option, Some, None, if◌then◌else◌, is_none, is_some}
+use Rattle.std.specs.Prelude.{ℕ, suc, ◌==◌, Bool, true, false, not, ◌&&◌, List, [], ◌∷◌, Option, Some, None, if◌then◌else◌, is_none, is_some}
 use Rattle.std.specs.List.{list_all}
-use Rattle.std.specs.Option.{option_or, option_and_then}
+use Rattle.std.specs.Option.{option_or, option_and_then, option_map_or}
 use Rattle.em_log.specs.declared.declarations.Declarations.{Declarations}
-use Rattle.em_log.specs.declared.entry.Entry.{Entry}
 use Rattle.em_log.specs.declared.entry.What.{What}
 use Rattle.em_log.specs.declared.entry.Body.{Body}
 use Rattle.em_log.specs.declared.entry.Begun.{Begun}
 use Rattle.em_log.specs.declared.ids.Note.{Note}
 use Rattle.em_log.specs.declared.ids.OpId.{OpId}
 use Rattle.em_log.specs.History.{Past, has}
-use Rattle.em_log.specs.Declarations.{below}
+use Rattle.em_log.specs.Declarations.{below, is_number}
 
 -- an operation as it began: the core, what it is to do, and its notes
 pub record Operation : Type 0 where
@@ -26,6 +25,10 @@ begun_by n c w was = was
 abbrev pub operation : Past → ℕ → Option Operation
 operation [] n = None
 operation (e ∷ past) n = begun_by n e.core.0 e.what (operation past n)
+
+-- what the job of this operation gives, where it has begun, else the other value
+abbrev pub by_job : {A : Type 0} → Past → OpId → (Begun → A) → A → A
+by_job past op f other = option_map_or (λ o. f o.job) (operation past op.0) other
 
 abbrev pub notes_of : Option Operation → List Note
 notes_of None = []
@@ -76,7 +79,7 @@ last_if true c None = Some c
 last_if _ c was = was
 
 abbrev pub last_acker_by : Declarations → Past → ℕ → ℕ → What → Option ℕ → Option ℕ
-last_acker_by k now n c (What.Ack op) was = last_if (all_acked k now n) c was
+last_acker_by k now n c (What.Ack op) was = if op.0 == n then last_if (all_acked k now n) c was else was
 last_acker_by k now n c w was = was
 
 -- the core after whose acknowledgement every core had acknowledged
@@ -91,10 +94,6 @@ abbrev pub only_if : Bool → What → Option What
 only_if true w = Some w
 only_if false w = None
 
-abbrev pub is_core : ℕ → Option ℕ → Bool
-is_core c None = false
-is_core c (Some d) = d == c
-
 -- the step that core c owes operation n: first what core b began, then what its global step, if done, has answered
 abbrev pub owed_for : Declarations → Past → ℕ → ℕ → ℕ → Begun → Option Bool → Option What
 owed_for k past c n b (Begun.Modify g m) _ = only_if (not (has (acked past n) c)) (What.Ack (op_id n))
@@ -104,7 +103,7 @@ owed_for k past c n b (Begun.Start x) (Some true) =
 owed_for k past c n b (Begun.Start x) (Some false) = None
 owed_for k past c n b (Begun.Stop x) None =
     option_or (only_if (not (has (acked past n) c)) (What.Enter (Body.LocalStop (op_id n))))
-    (only_if (is_core c (last_acker k past n)) (What.Enter (Body.GlobalStop (op_id n))))
+    (only_if (is_number c (last_acker k past n)) (What.Enter (Body.GlobalStop (op_id n))))
 owed_for k past c n b (Begun.Stop x) (Some ok) = None
 
 abbrev pub owed_to : Declarations → Past → ℕ → ℕ → Option What
@@ -121,10 +120,6 @@ step k past c = first_owed k past c (below (operations past))
 abbrev pub is_done : Past → ℕ → Bool
 is_done past n = is_some (done past n)
 
--- every operation that has begun is done
-abbrev pub all_done : Past → Bool
-all_done past = list_all (is_done past) (below (operations past))
-
 abbrev pub is_aim : (Begun → Bool) → Option Operation → Bool
 is_aim aims None = false
 is_aim aims (Some o) = aims o.job
@@ -137,3 +132,7 @@ first_pending past aims (n ∷ ns) =
 -- the least operation with this aim that has begun and is not done
 abbrev pub pending : Past → (Begun → Bool) → Option ℕ
 pending past aims = first_pending past aims (below (operations past))
+
+-- no operation is pending
+abbrev pub all_done : Past → Bool
+all_done past = is_none (pending past (λ job. true))

@@ -1,14 +1,13 @@
 -- States of objects, flags of queues, masks of queue groups, and which queues are closed.
-use Rattle.std.specs.Prelude.{ℕ, ◌==◌, Bool, true, false, List, [], ◌∷◌, Option, Some, None, if◌then◌else◌, bit_and, slice_get}
+use Rattle.std.specs.Prelude.{ℕ, ◌==◌, Bool, true, false, [], ◌∷◌, Option, Some, None, if◌then◌else◌, bit_and, slice_get}
 use Rattle.std.specs.Option.{option_map_or, option_and_then}
 use Rattle.em_log.specs.declared.declarations.Declarations.{Declarations}
-use Rattle.em_log.specs.declared.entry.Entry.{Entry}
 use Rattle.em_log.specs.declared.entry.What.{What}
 use Rattle.em_log.specs.declared.entry.Begun.{Begun}
 use Rattle.em_log.specs.declared.ids.EoState.{EoState}
 use Rattle.em_log.specs.History.{Past}
 use Rattle.em_log.specs.Declarations.{kind_of, object_of, declared_mask, is_served}
-use Rattle.em_log.specs.Operations.{Operation, operation}
+use Rattle.em_log.specs.Operations.{by_job}
 
 -- states
 
@@ -26,7 +25,7 @@ state_begun x (Begun.Modify g m) s = s
 
 abbrev pub state_after : Past → ℕ → What → EoState → EoState
 state_after past x (What.Begin op job notes) s = state_begun x job s
-state_after past x (What.Done op ok) s = option_map_or (λ o. state_done x o.job ok s) (operation past op.0) s
+state_after past x (What.Done op ok) s = by_job past op (λ j. state_done x j ok s) s
 state_after past x w s = s
 
 abbrev pub first_state : Bool → EoState
@@ -61,7 +60,7 @@ mask_done g (Begun.Modify h new) m = if h.0 == g then new else m
 mask_done g _ m = m
 
 abbrev pub mask_after : Past → ℕ → What → ℕ → ℕ
-mask_after past g (What.Done op ok) m = option_map_or (λ o. mask_done g o.job m) (operation past op.0) m
+mask_after past g (What.Done op ok) m = by_job past op (λ j. mask_done g j m) m
 mask_after past g w m = m
 
 -- the mask of a queue group: that of its last change that is done, else the declared one
@@ -79,7 +78,7 @@ change_begun g _ m = m
 
 abbrev pub change_after : Past → ℕ → What → Option ℕ → Option ℕ
 change_after past g (What.Begin op job notes) m = change_begun g job m
-change_after past g (What.Done op ok) m = option_map_or (λ o. change_done g o.job m) (operation past op.0) m
+change_after past g (What.Done op ok) m = by_job past op (λ j. change_done g j m) m
 change_after past g w m = m
 
 -- the mask to which the queue group is being changed, where a change has begun and is not done

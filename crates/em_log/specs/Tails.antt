@@ -17,7 +17,7 @@ use Rattle.em_log.specs.Handles.{Minting, minting}
 use Rattle.em_log.specs.Operations.{operation, notes_of, all_acked}
 use Rattle.em_log.specs.States.{closed}
 use Rattle.em_log.specs.Order.{Sent, open_ticket, let_in}
-use Rattle.em_log.specs.Arrivals.{Item, send_entering}
+use Rattle.em_log.specs.Arrivals.{Item, note_entering, send_entering}
 use Rattle.em_log.specs.Places.{taken}
 use Rattle.em_log.specs.EventGroups.{is_current, applied_notes, count, open_stamp}
 use Rattle.em_log.specs.Leads.{item_again}
@@ -45,16 +45,14 @@ outs k past ss = flat_map (out k past) ss
 
 -- notes
 
-abbrev pub note_sent : ℕ → Note → Sent
-note_sent d n = record { queue = n.queue.0; core = d; handle = n.word; stamp = None }
+-- what a note gives that lets this in: a fault where that is nothing, else an Out where its queue is an output
+abbrev pub note_result : Declarations → Past → Note → Option Sent → List What
+note_result k now n None = What.Fault Call.Note (Fault.NoteLost n.queue) None ∷ []
+note_result k now n (Some s) = out k now s
 
-abbrev pub note_result : Declarations → Past → ℕ → Note → Option ℕ → List What
-note_result k now d n None = out k now (note_sent d n)
-note_result k now d n (Some why) = What.Fault Call.Note (Fault.NoteLost n.queue) None ∷ []
-
--- what a note gives at completion: a fault where its queue is closed, else an Out where it is an output
+-- what notes give at completion by core d, in order
 abbrev pub note_results : Declarations → Past → ℕ → List Note → List What
-note_results k now d notes = flat_map (λ n. note_result k now d n (closed k now n.queue.0)) notes
+note_results k now d notes = flat_map (λ n. note_result k now n (note_entering d n (closed k now n.queue.0))) notes
 
 -- completion of an operation by core d: it is done, and then come its notes
 abbrev pub completion : Declarations → Past → ℕ → OpId → List What

@@ -1,6 +1,6 @@
 -- Which graphs are those of scripts.
 use mathlib.Core.Former.{Count}
-use Rattle.std.specs.Prelude.{ℕ, zero, suc, ◌+◌, ◌^◌, ◌≤◌, ◌≡◌, ◌==◌, Bool, true, false, not, ◌&&◌, ◌||◌, nat_lt, nat_le, List, [], ◌∷◌, ◌++◌, length, map, Option, Some, None, if◌then◌else◌, is_none, is_some, IsTrue, slice_get}
+use Rattle.std.specs.Prelude.{ℕ, zero, suc, ◌+◌, ◌^◌, ◌≤◌, ◌==◌, Bool, true, false, not, ◌&&◌, ◌||◌, nat_lt, nat_le, List, [], ◌∷◌, ◌++◌, length, map, Option, None, is_none, is_some, IsTrue, slice_get}
 use Rattle.std.specs.List.{list_all}
 use Rattle.std.specs.Option.{option_map_or, option_or}
 use Rattle.em_log.specs.declared.body.Expr.{Expr}
@@ -16,7 +16,7 @@ use Rattle.em_log.specs.declared.graph.QueueDecl.{QueueDecl}
 use Rattle.em_log.specs.declared.ids.GroupId.{GroupId}
 use Rattle.em_log.specs.declared.ids.Kind.{Kind}
 use Rattle.em_log.specs.declared.ids.QueueId.{QueueId}
-use Rattle.em_log.specs.declared.mask.CoreMask.{CoreMask}
+use Rattle.em_log.specs.Bounds.{core_limit}
 use Rattle.em_log.specs.Declarations.{pool_shape, event_total}
 use Rattle.em_log.specs.Names.{is_name, are_different}
 use Rattle.em_log.specs.Weights.{weight_of, steps_of}
@@ -264,7 +264,7 @@ are_bodies g d =
 -- the whole
 
 pub record AreFew (g : Config) : Type 0 where
-  pub cores : (1 ≤ g.cores) × (g.cores ≤ 8)
+  pub cores : (1 ≤ g.cores) × (g.cores ≤ core_limit)
   pub pools : length g.pools ≤ 8
   pub events : event_total (map pool_shape g.pools) ≤ 4096
   pub groups : length g.groups ≤ 32

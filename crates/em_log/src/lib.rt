@@ -3,6 +3,7 @@
 
 pub mod ask;
 pub mod body;
+pub mod bounds;
 pub mod declarations;
 pub mod entry;
 pub mod fault;
@@ -17,6 +18,7 @@ pub mod work;
 
 pub use ask::{Answer, Ask, Context, Receive, Reply};
 pub use body::{Block, Expr, Stmt};
+pub use bounds::{MAX_CORES, MAX_OPERATIONS};
 pub use declarations::{Declarations, PoolShape, QueueShape};
 pub use entry::{Begun, Body, Entry, Event, Locals, Rest, Taken, What};
 pub use fault::{Call, Fault};

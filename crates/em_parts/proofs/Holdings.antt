@@ -10,7 +10,7 @@ use Rattle.em_log.specs.History.{Past, names, note_words, without, without_all}
 use Rattle.em_log.specs.Handles as log
 use Rattle.em_log.specs.Contexts.{context, context_after}
 use Rattle.em_log.specs.Lawful.{AllAllowed}
-use Rattle.em_log.proofs.Moments.{Moment, EnterMoment, EntersBoot, EntersStep, allowed-moment}
+use Rattle.em_moments.proofs.Moments.{Moment, EnterMoment, EntersBoot, EntersStep, allowed-moment}
 use Rattle.em_laws.proofs.Cores.{none-some, compared, Compared, Same, Other}
 use Rattle.em_pool.specs.Steps.{Step, held}
 use Rattle.em_parts.specs.PoolSteps.{moves, direct, minted_steps, noted_steps, pool_steps}

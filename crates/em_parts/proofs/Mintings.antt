@@ -38,7 +38,7 @@ same-minting k (e ∷ past) h =
     ∙ (direct-minting k past e.core.0 e.what (pool_steps k past) h ∙ ap (log.minting_by h e.core.0 (minted_in e.what)) (same-minting k past h))
 
 direct-last : (k : Declarations) (past : Past) (c : ℕ) (w : What) (steps : List Step) (i : ℕ)
-    → pool.last_handle (direct k past c w steps) i ≡ log.last_handle_by i c (minted_in w) (pool.last_handle steps i)
+    → pool.last_handle (direct k past c w steps) i ≡ log.last_handle_by i (minted_in w) (pool.last_handle steps i)
 direct-last k past c (What.Claim e) steps i = minted-last c i e steps
 direct-last k past c (What.Dequeue q e) steps i = minted-last c i e steps
 direct-last k past c (What.Begin op job notes) steps i = noted-last c _ notes steps i
@@ -49,4 +49,4 @@ pub same-last : (k : Declarations) (past : Past) (i : ℕ) → pool.last_handle 
 same-last k [] i = refl
 same-last k (e ∷ past) i =
     moved-last (moves k past e.core.0 e.what) (direct k past e.core.0 e.what (pool_steps k past)) i
-    ∙ (direct-last k past e.core.0 e.what (pool_steps k past) i ∙ ap (log.last_handle_by i e.core.0 (minted_in e.what)) (same-last k past i))
+    ∙ (direct-last k past e.core.0 e.what (pool_steps k past) i ∙ ap (log.last_handle_by i (minted_in e.what)) (same-last k past i))

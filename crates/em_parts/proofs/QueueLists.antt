@@ -18,7 +18,7 @@ use Rattle.em_log.specs.Places.{gone, gone_after, waiting, taken}
 use Rattle.em_log.specs.Atomic.{if_holder, received_atomic, holds}
 use Rattle.em_log.specs.Lawful.{AllAllowed}
 use Rattle.em_log.specs.Laws.{Shown, shown_item, starts}
-use Rattle.em_log.proofs.Moments.{Moment, UntakeMoment, EndAtomicMoment, allowed-moment}
+use Rattle.em_moments.proofs.Moments.{Moment, UntakeMoment, EndAtomicMoment, allowed-moment}
 use Rattle.em_laws.proofs.Cores.{if-same, Compared, Same, Other, compared}
 use Rattle.em_laws.proofs.Served.{cons-some}
 use Rattle.em_laws.proofs.Lists.{for-queue}

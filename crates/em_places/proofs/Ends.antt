@@ -13,7 +13,7 @@ use Rattle.em_log.specs.Handles.{Minting, minting, last_handle, Spending, spendi
 use Rattle.em_log.specs.Order.{Sent, open_ticket, ticket_of_send, enters, let_in}
 use Rattle.em_log.specs.Places.{waiting, taken, has_item}
 use Rattle.em_log.specs.Lawful.{AllAllowed}
-use Rattle.em_log.proofs.Moments.{Moment}
+use Rattle.em_moments.proofs.Moments.{Moment}
 use Rattle.em_pool.specs.declared.place.Place.{Place}
 use Rattle.em_pool.specs.State.{is_held_by}
 use Rattle.em_pool.specs.Steps.{Step, Lost}

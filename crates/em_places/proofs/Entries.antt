@@ -13,7 +13,7 @@ use Rattle.em_log.specs.Declarations.{is_number}
 use Rattle.em_log.specs.Contexts.{context_object}
 use Rattle.em_log.specs.Places.{taken, kept, has_item}
 use Rattle.em_log.specs.Lawful.{AllAllowed}
-use Rattle.em_log.proofs.Moments.{Moment, KeepMoment}
+use Rattle.em_moments.proofs.Moments.{Moment, KeepMoment}
 use Rattle.em_pool.specs.declared.place.Place.{Place}
 use Rattle.em_laws.specs.Minted.{HasSmallIndices, minted}
 use Rattle.em_laws.proofs.Spent.{unended}

@@ -10,7 +10,7 @@ use Rattle.em_log.specs.Declarations.{below, kind_of, is_output}
 use Rattle.em_log.specs.Operations.{done}
 use Rattle.em_log.specs.Arrivals.{entering, arrivals}
 use Rattle.em_log.specs.Places.{has_item, has_entered, note_queue, application_end}
-use Rattle.em_log.proofs.Asked.{and-true}
+use Rattle.em_moments.proofs.Asked.{and-true}
 use Rattle.em_places.specs.Parked.{completed_free, noted_free, free_after}
 use Rattle.em_bounds.proofs.Lists.{came, with-came, InEither, InFirst, InSecond, in-either}
 

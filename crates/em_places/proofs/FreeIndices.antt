@@ -17,12 +17,12 @@ use Rattle.em_log.specs.Handles.{Minting, minting, last_handle, Spending, spendi
 use Rattle.em_log.specs.Operations.{operation, notes_of, done}
 use Rattle.em_log.specs.States.{closed}
 use Rattle.em_log.specs.Order.{Sent, Ticket, is_ticket, ticket_of_send, sends_under, sends_under_all, open_ticket, enters, let_in}
-use Rattle.em_log.specs.Arrivals.{Item, item, is_for, open_notes, entering, arrivals}
+use Rattle.em_log.specs.Arrivals.{Item, item, is_for, note_entering, with_sent, open_notes, entering, arrivals}
 use Rattle.em_log.specs.EventGroups.{applications, busy, applied_notes}
 use Rattle.em_log.specs.Places.{waiting, taken, has_item, has_entered, note_queue, application_end}
 use Rattle.em_log.specs.Lawful.{AllAllowed}
-use Rattle.em_log.proofs.Asked.{and-true}
-use Rattle.em_log.proofs.Moments.{Moment, allowed-moment}
+use Rattle.em_moments.proofs.Asked.{and-true}
+use Rattle.em_moments.proofs.Moments.{Moment, allowed-moment}
 use Rattle.em_pool.specs.declared.place.Place.{Place}
 use Rattle.em_laws.proofs.Cores.{Compared, Same, Other, compared, some-inj, eqb-eq}
 use Rattle.em_laws.proofs.Spent.{spending-kept, unended, usable, spends-now, notes-spent, applied-spent}
@@ -295,7 +295,7 @@ notes-came k past now d (n ∷ ns) f q m at unclosed minted = by_test (compared 
         let there : has_item (item past rec) f ≡ true = ap (has_item (item past rec)) (sym e) ∙ item-has past rec m (ap (minting past) e ∙ minted) in
         has_item-left f _ (came k past q d (open_notes k now d ns)) (rw list there)
 
-    rest : (o : Option ℕ) → has_item (came k past q d (open_notes k now d ns)) f ≡ true → has_item (came k past q d (if is_none o then rec ∷ open_notes k now d ns else open_notes k now d ns)) f ≡ true
+    rest : (o : Option ℕ) → has_item (came k past q d (open_notes k now d ns)) f ≡ true → has_item (came k past q d (with_sent (note_entering d n o) (open_notes k now d ns))) f ≡ true
     rest None is = has_item-right f (if is_for k q d n.queue.0 d then item past rec else []) (came k past q d (open_notes k now d ns)) is
     rest (Some why) is = is
 

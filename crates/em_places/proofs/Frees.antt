@@ -10,7 +10,7 @@ use Rattle.em_log.specs.Handles.{spending}
 use Rattle.em_log.specs.Operations.{done}
 use Rattle.em_log.specs.Places as log
 use Rattle.em_log.specs.Lawful.{AllAllowed}
-use Rattle.em_log.proofs.Asked.{and-true}
+use Rattle.em_moments.proofs.Asked.{and-true}
 use Rattle.em_pool.specs.declared.place.Place.{Place}
 use Rattle.em_pool.specs.Places as pool
 use Rattle.em_laws.specs.Minted.{HasSmallIndices}

@@ -20,7 +20,7 @@ use Rattle.em_log.specs.Places.{gone, waiting, taken, kept, has_item, place, is_
 use Rattle.em_log.specs.Leads.{item_again, kept_again, claimed_from, claimed, dequeued}
 use Rattle.em_log.specs.Lawful.{AllAllowed}
 use Rattle.em_log.specs.Laws.{handles_of}
-use Rattle.em_log.proofs.Moments.{AllocMoment, StartMoment, ClaimMoment, DequeueMoment}
+use Rattle.em_moments.proofs.Moments.{AllocMoment, StartMoment, ClaimMoment, DequeueMoment}
 use Rattle.em_pool.specs.declared.place.Place.{Place}
 use Rattle.em_laws.specs.Minted.{HasSmallIndices}
 use Rattle.em_laws.proofs.Cores.{Compared, Same, Other, compared, if-same, some-inj}

@@ -18,13 +18,13 @@ use Rattle.em_log.specs.Handles.{Minting, minting, last_handle, Spending, spendi
 use Rattle.em_log.specs.Operations.{Operation, operation, notes_of, done}
 use Rattle.em_log.specs.Order.{Sent, ticket_of_send, enters}
 use Rattle.em_log.specs.States.{closed}
-use Rattle.em_log.specs.Arrivals.{open_notes}
+use Rattle.em_log.specs.Arrivals.{note_entering, with_sent, open_notes}
 use Rattle.em_log.specs.EventGroups.{applications, busy, is_current, applied_notes}
 use Rattle.em_log.specs.Leads.{notes_refusal}
 use Rattle.em_log.specs.Places.{waiting, taken, has_item, has_entered, note_queue, application_end}
 use Rattle.em_log.specs.Lawful.{AllAllowed}
-use Rattle.em_log.proofs.Asked.{and-true}
-use Rattle.em_log.proofs.Moments.{Moment, BeginMoment, ApplyMoment, AbortMoment}
+use Rattle.em_moments.proofs.Asked.{and-true}
+use Rattle.em_moments.proofs.Moments.{Moment, BeginMoment, ApplyMoment, AbortMoment}
 use Rattle.em_pool.specs.declared.place.Place.{Place}
 use Rattle.em_pool.specs.declared.place.Spend.{Spend}
 use Rattle.em_pool.specs.Steps.{Step, Spent}
@@ -306,7 +306,7 @@ opened k now d whole [] a = tt
 opened k now d whole (n ∷ ns) a = by_closed (closed k now n.queue.0) refl (opened k now d whole ns a.1)
   where
     by_closed : (o : Option ℕ) → closed k now n.queue.0 ≡ o → AllSent (Opened k now whole) (open_notes k now d ns)
-        → AllSent (Opened k now whole) (if is_none o then record { queue = n.queue.0; core = d; handle = n.word; stamp = None } ∷ open_notes k now d ns else open_notes k now d ns)
+        → AllSent (Opened k now whole) (with_sent (note_entering d n o) (open_notes k now d ns))
     by_closed None is rest = (record { among = a.0.among; queue = a.0.queue; unclosed = is }, rest)
     by_closed (Some why) is rest = rest
 

@@ -18,8 +18,8 @@ use Rattle.em_log.specs.EventGroups.{applications, busy, applied_notes}
 use Rattle.em_log.specs.Places as log
 use Rattle.em_log.specs.Lawful.{AllAllowed}
 use Rattle.em_log.specs.Laws.{AreDifferent}
-use Rattle.em_log.proofs.Asked.{and-true}
-use Rattle.em_log.proofs.Moments.{Moment, allowed-moment}
+use Rattle.em_moments.proofs.Asked.{and-true}
+use Rattle.em_moments.proofs.Moments.{Moment, allowed-moment}
 use Rattle.em_pool.specs.declared.place.Place.{Place}
 use Rattle.em_pool.specs.declared.place.Spend.{Spend}
 use Rattle.em_pool.specs.State.{is_held_by}
@@ -72,8 +72,8 @@ no-hand : (k : Declarations) (past : Past) (d f i : ℕ) → rule past d f ≡ N
 no-hand k past d f i ok older none = false-from _ (λ is. let h = in-hand k past d f ok older in sits-minted k past f i _ h.sits (eqb-eq _ i is) none)
 
 -- an entry that mints another index
-pub not-minted : (e : Event) (d i : ℕ) (was : Option ℕ) → last_handle_by i d (Some e) was ≡ None → ((index_of e.handle.0 == i) ≡ false) × (was ≡ None)
-not-minted e d i was none = by_test (index_of e.handle.0 == i) refl none
+pub not-minted : (e : Event) (i : ℕ) (was : Option ℕ) → last_handle_by i (Some e) was ≡ None → ((index_of e.handle.0 == i) ≡ false) × (was ≡ None)
+not-minted e i was none = by_test (index_of e.handle.0 == i) refl none
   where
     by_test : (b : Bool) → (index_of e.handle.0 == i) ≡ b → (if b then Some e.handle.0 else was) ≡ None → ((index_of e.handle.0 == i) ≡ false) × (was ≡ None)
     by_test true is none = absurd cc
@@ -83,7 +83,7 @@ unminted-next : (k : Declarations) (l : Limits) (past : Past) (d : ℕ) (w : Wha
 unminted-next k l past d (What.Take r n t) i all m older was none =
     untouched _ (pool_steps k past) i (no-items k past _ (Place.Waiting (record { 0 = r.0 })) (take n (log.waiting k past r.0 d)) i
     (λ f is. older f _ (InQueue r.0 d (served-output (kind_of k r.0) m.ready.served) (has_item-take f n (log.waiting k past r.0 d) is) refl)) none) ∙ was none
-unminted-next k l past d (What.Start r e st) i all m older was none = let n = not-minted e d i (last_handle past i) none in rw n.0 (was n.1)
+unminted-next k l past d (What.Start r e st) i all m older was none = let n = not-minted e i (last_handle past i) none in rw n.0 (was n.1)
 unminted-next k l past d (What.Untake r n) i all m older was none =
     untouched _ (pool_steps k past) i (no-items k past _ (Place.Taken (record { 0 = d })) (log.taken k past d) i (λ f is. older f _ (InTaken d is refl)) none) ∙ was none
 unminted-next k l past d (What.EndAtomic rest cells) i all m older was none = by_queue (receives_from past d)
@@ -98,7 +98,7 @@ unminted-next k l past d (What.End lost cells) i all m older was none =
 unminted-next k l past d What.EndOrdered i all m older was none =
     let now : Past = entry_by d What.EndOrdered ∷ past in
     untouched (map (sent_move k) (let_in past now (open_ticket past d))) (pool_steps k past) i (no-sents k l past now d i all older none) ∙ was none
-unminted-next k l past d (What.Alloc a e) i all m older was none = let n = not-minted e d i (last_handle past i) none in rw n.0 (was n.1)
+unminted-next k l past d (What.Alloc a e) i all m older was none = let n = not-minted e i (last_handle past i) none in rw n.0 (was n.1)
 unminted-next k l past d (What.Free f) i all m older was none = let n = no-hand k past d f.0 i m.rule older none in rw n (was none)
 unminted-next k l past d (What.Keep f) i all m older was none = let n = no-hand k past d f.0 i m.rule older none in rw n (was none)
 unminted-next k l past d (What.Send f q t st) i all m older was none =
@@ -112,8 +112,8 @@ unminted-next k l past d (What.Send f q t st) i all m older was none =
     by_enters false o is = rw n (was none)
     by_enters true true is = rw (is, n) (was none)
     by_enters true false is = rw (is, n) (was none)
-unminted-next k l past d (What.Claim (Some e)) i all m older was none = let n = not-minted e d i (last_handle past i) none in rw n.0 (was n.1)
-unminted-next k l past d (What.Dequeue r (Some e)) i all m older was none = let n = not-minted e d i (last_handle past i) none in rw n.0 (was n.1)
+unminted-next k l past d (What.Claim (Some e)) i all m older was none = let n = not-minted e i (last_handle past i) none in rw n.0 (was n.1)
+unminted-next k l past d (What.Dequeue r (Some e)) i all m older was none = let n = not-minted e i (last_handle past i) none in rw n.0 (was n.1)
 unminted-next k l past d (What.Begin op job notes) i all m older was none =
     let hands = all-in-hand k past d notes m.usable older in
     let off : touches (map freed_move notes) i ≡ false = false-from _ (λ is. let t = touched-note notes i is in sits-minted k past t.handle i _ ((hands t.handle t.among).sits) t.index none) in
@@ -152,7 +152,7 @@ last-minted (e ∷ past) i h is = by_mint (minted_in e.what) is (last-minted pas
         by_test true = (record { core = e.core.0; event = v }, refl)
         by_test false = k.1
 
-    by_mint : (o : Option Event) → last_handle_by i e.core.0 o (last_handle past i) ≡ Some h → (last_handle past i ≡ Some h → (index_of h ≡ i) × ((m : Minting) × (minting past h ≡ Some m))) → Known o
+    by_mint : (o : Option Event) → last_handle_by i o (last_handle past i) ≡ Some h → (last_handle past i ≡ Some h → (index_of h ≡ i) × ((m : Minting) × (minting past h ≡ Some m))) → Known o
     by_mint None is later = later is
     by_mint (Some v) is later = by_test (index_of v.handle.0 == i) refl is
       where

@@ -17,8 +17,8 @@ use Rattle.em_log.specs.Arrivals.{send_entering}
 use Rattle.em_log.specs.Places.{waiting, taken, kept, has_item, has_entered}
 use Rattle.em_log.specs.Answers.{object_id}
 use Rattle.em_log.specs.Lawful.{AllAllowed}
-use Rattle.em_log.proofs.Asked.{and-true}
-use Rattle.em_log.proofs.Moments.{FreeMoment, KeepMoment, SendMoment}
+use Rattle.em_moments.proofs.Asked.{and-true}
+use Rattle.em_moments.proofs.Moments.{FreeMoment, KeepMoment, SendMoment}
 use Rattle.em_pool.specs.declared.place.Place.{Place}
 use Rattle.em_pool.specs.declared.place.Spend.{Spend}
 use Rattle.em_pool.specs.Steps.{Spent}

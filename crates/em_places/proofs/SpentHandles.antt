@@ -15,7 +15,7 @@ use Rattle.em_log.specs.Operations.{Operation, operation, operations, done}
 use Rattle.em_log.specs.EventGroups.{applications, applied_notes}
 use Rattle.em_log.specs.Lawful.{AllAllowed}
 use Rattle.em_log.specs.Laws.{AreDifferent}
-use Rattle.em_log.proofs.Moments.{Moment, ApplyMoment, allowed-moment}
+use Rattle.em_moments.proofs.Moments.{Moment, ApplyMoment, allowed-moment}
 use Rattle.em_pool.specs.Steps as pools
 use Rattle.em_pool.specs.Handles as pool
 use Rattle.em_laws.specs.Minted.{with_handle, minted}

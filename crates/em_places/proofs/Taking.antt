@@ -15,7 +15,7 @@ use Rattle.em_log.specs.Arrivals.{Item, is_for, arrivals}
 use Rattle.em_log.specs.Places.{gone, waiting, taken, has_item}
 use Rattle.em_log.specs.Atomic.{if_holder, received_atomic, holds}
 use Rattle.em_log.specs.Lawful.{AllAllowed}
-use Rattle.em_log.proofs.Moments.{TakeMoment, UntakeMoment, EndAtomicMoment}
+use Rattle.em_moments.proofs.Moments.{TakeMoment, UntakeMoment, EndAtomicMoment}
 use Rattle.em_pool.specs.declared.place.Place.{Place}
 use Rattle.em_laws.proofs.Cores.{Compared, Same, Other, compared}
 use Rattle.em_laws.proofs.Lists.{for-queue, waiting-for}

@@ -10,7 +10,7 @@ use Rattle.em_log.specs.Declarations.{kind_of, is_local}
 use Rattle.em_log.specs.Handles.{Minting, minting, last_handle, next_handle, generation, spending}
 use Rattle.em_log.specs.Order.{Ticket, enters}
 use Rattle.em_log.specs.Arrivals.{is_for}
-use Rattle.em_log.proofs.Asked.{and-true}
+use Rattle.em_moments.proofs.Asked.{and-true}
 use Rattle.em_pool.specs.declared.place.Place.{Place}
 use Rattle.em_laws.proofs.Cores.{Compared, Same, Other, compared, eqb-eq, some-inj}
 use Rattle.em_laws.proofs.Tickets.{enters-grow}

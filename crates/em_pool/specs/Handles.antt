@@ -28,7 +28,7 @@ minting (s ∷ steps) h = minting_by h (minter s) (minted_in s) (minting steps h
 -- the handle of the last minting of this index
 abbrev pub last_handle : List Step → ℕ → Option ℕ
 last_handle [] i = None
-last_handle (s ∷ steps) i = last_handle_by i (minter s) (minted_in s) (last_handle steps i)
+last_handle (s ∷ steps) i = last_handle_by i (minted_in s) (last_handle steps i)
 
 abbrev pub event_of : Minting → Event
 event_of m = m.event

@@ -7,7 +7,7 @@ use lib.ListN.{get_elem?}
 use Rattle.std.specs.Prelude.{Option, Some}
 use Rattle.atomic_table.specs.Table.{State, step, keeps, takes, gives, opening, Allows, Splits, Joins, Final, Seen}
 use Rattle.atomic_table.proofs.Lists.{set_again, set_else}
-use Rattle.em_log.specs.Items.{Item, Fixed}
+use Rattle.em_log.specs.Items.{LogItem, Fixed}
 use Rattle.em_turn.specs.Numbers.{OnlyOf, Below, After, claim}
 use Rattle.em_turn.specs.Views.{Idle, Waiting, Inside, Known, tickets_at, total, Each}
 use Rattle.em_turn.specs.Steps.{opened, with_ticket, entered, passed, divided, parted, united, spent, checked, Seated, Draws, Looks, Passes, Checks}
@@ -17,7 +17,7 @@ use Rattle.em_turn.proofs.Items.{below_append, after_check}
 use Rattle.em_turn.proofs.Tickets.{tickets_drawn, served_home, tickets_entered, inside_out, tickets_passed, idle_line, tickets_split, tickets_joined, tickets_checked}
 use Rattle.em_turn.proofs.Lists.{lists_moved, fits_view, fits_more, same_value, not_home, lists_split, lists_joined}
 
-module _ {V : Type 0} (items : V → List Item) (fixed_of : V → Fixed) where
+module _ {V : Type 0} (items : V → List LogItem) (fixed_of : V → Fixed) where
   pub opening_keeps : (y : V) → items y ≡ [] → IsKept items fixed_of (opening (0 ∷ 0 ∷ []) (Some y ∷ []) (opened (fixed_of y)))
   opening_keeps y empty = let w : Known = opened (fixed_of y) in (
     record {
@@ -77,16 +77,16 @@ module _ {V : Type 0} (items : V → List Item) (fixed_of : V → Fixed) where
               (fits_view items fixed_of l.log l.fixed (claim v.own.numbers (items x)) v.fixed v.turns v.parts Inside v.ticket F (f.named lives) (λ _. here.0) ([], sym here.0 ∙ sym (append-nil (items x)), tt))
               (λ j u ne e. l.fits j u e) l.below,
         ),
-        ((λ _. (x, refl, here.1 ∙ sym F, subst (λ (xs : List Item). After xs v.own) (sym here.0) f.own)), λ miss. absurd (miss hit)),
+        ((λ _. (x, refl, here.1 ∙ sym F, subst (λ (xs : List LogItem). After xs v.own) (sym here.0) f.own)), λ miss. absurd (miss hit)),
       ))
       (λ miss. (v, keeps, tt, stays s 1 id v k at same, ((λ hit. absurd (miss hit)), λ _. refl)))
 
-  pub pass_keeps : (slots id : ℕ) (v : Known) (y : V) (added : List Item) → v.stage ≡ Inside → 0 < v.parts → items y ≡ v.own.seen ++ added → OnlyOf v.own.numbers added → fixed_of y ≡ v.fixed
+  pub pass_keeps : (slots id : ℕ) (v : Known) (y : V) (added : List LogItem) → v.stage ≡ Inside → 0 < v.parts → items y ≡ v.own.seen ++ added → OnlyOf v.own.numbers added → fixed_of y ≡ v.fixed
       → Allows (IsKept items fixed_of) slots id (v, (0, Some y) ∷ []) 1 (λ n. (n + 1) % wrap) (Passes items (step slots 1 1 0 none) (v, (0, Some y) ∷ []))
   pass_keeps slots id v y added st lives is only fx s k wide at small =
       let n : ℕ = get_or s.words 1 0 in let t = k.0 in let l = k.1 in let f = l.fits id v at in let w : Known = passed v (items y) in
       let out = inside_out s t id v at st in let homes' : Homes V = set s.homes 0 (some (Some y)) in let full : homes' ≡ some (Some y) ∷ [] = ap (λ h. set h 0 (some (Some y))) out.0 in
-      let grown : items y ≡ l.log ++ added = is ∙ ap (λ (xs : List Item). xs ++ added) (f.whole st) in (
+      let grown : items y ≡ l.log ++ added = is ∙ ap (λ (xs : List LogItem). xs ++ added) (f.whole st) in (
         w,
         gives,
         tt,
@@ -95,7 +95,7 @@ module _ {V : Type 0} (items : V → List Item) (fixed_of : V → Fixed) where
           lists_moved items fixed_of s l id v w (set s.words 1 ((n + 1) % wrap)) homes' (items y) at refl refl
               (λ x e. let same : y ≡ x = same_value items fixed_of x y homes' full e in (ap items (sym same), ap fixed_of (sym same) ∙ fx ∙ f.same lives))
               (fits_view items fixed_of (items y) l.fixed (claim v.own.numbers (items y)) v.fixed v.turns v.parts Idle v.ticket (f.same lives) (f.named lives) (λ _. refl) ([], sym (append-nil (items y)), tt))
-              (λ j u ne e. subst (λ (xs : List Item). Fits xs l.fixed u) (sym grown) (fits_more items fixed_of l.log added l.fixed u v.own.numbers (l.fits j u e) (out.1 j u ne e) only (l.alone id j v u (λ z. ne (sym z)) at e)))
+              (λ j u ne e. subst (λ (xs : List LogItem). Fits xs l.fixed u) (sym grown) (fits_more items fixed_of l.log added l.fixed u v.own.numbers (l.fits j u e) (out.1 j u ne e) only (l.alone id j v u (λ z. ne (sym z)) at e)))
               (λ j u e ns. subst (Below u.parts) (sym grown) (below_append u.parts v.own.numbers l.log added (l.below j u e ns) only (l.bounds j id u v e at ns))),
         ),
         refl,
@@ -138,6 +138,6 @@ module _ {V : Type 0} (items : V → List Item) (fixed_of : V → Fixed) where
       let here = l.home home.0 home.1 in (
         home.0,
         last.4 0 (Some home.0) (ap (λ hs. get_elem? hs 0) home.1),
-        subst (λ (ys : List Item). After ys v.own) (sym here.0) f.own,
+        subst (λ (ys : List LogItem). After ys v.own) (sym here.0) f.own,
         here.1 ∙ sym (f.same lives),
       )

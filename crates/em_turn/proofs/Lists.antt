@@ -5,7 +5,7 @@ use lib.ListN.{get_elem?}
 use Rattle.std.specs.Prelude.{Option, Some, None}
 use Rattle.atomic_table.specs.Table.{State}
 use Rattle.atomic_table.proofs.Lists.{at_set}
-use Rattle.em_log.specs.Items.{Item, Fixed}
+use Rattle.em_log.specs.Items.{LogItem, Fixed}
 use Rattle.em_turn.specs.Numbers.{In, OnlyOf, Below, After, Claim, claim}
 use Rattle.em_turn.specs.Views.{Stage, Idle, Inside, Known, view_of, Each, Pairs}
 use Rattle.em_turn.specs.Steps.{divided, parted, united, spent}
@@ -20,9 +20,9 @@ was views id v w at ns ps j u e = ⊎_elim
     (λ (x : (j ≡ id) × (w ≡ u)). (v, ap (get_elem? views) x.0 ∙ at, ap (λ z. z.own.numbers) (sym x.1) ∙ ns, ap (λ z. z.parts) (sym x.1) ∙ ps))
     (λ (x : (j ≢ id) × (get_elem? views j ≡ some u)). (u, x.1, refl, refl)) (at_set views id j w u e)
 
-module _ {V : Type 0} (items : V → List Item) (fixed_of : V → Fixed) where
+module _ {V : Type 0} (items : V → List LogItem) (fixed_of : V → Fixed) where
   -- one seat's view changes, but not its numbers and parts
-  pub lists_moved : (s : State (Option V) Known) (l : Lists items fixed_of s) (id : ℕ) (v w : Known) (words' : List ℕ) (homes' : Homes V) (log' : List Item) → get_elem? s.views id ≡ some v
+  pub lists_moved : (s : State (Option V) Known) (l : Lists items fixed_of s) (id : ℕ) (v w : Known) (words' : List ℕ) (homes' : Homes V) (log' : List LogItem) → get_elem? s.views id ≡ some v
       → w.own.numbers ≡ v.own.numbers → w.parts ≡ v.parts → ((x : V) → homes' ≡ some (Some x) ∷ [] → (items x ≡ log') × (fixed_of x ≡ l.fixed)) → Fits log' l.fixed w
       → ((j : ℕ) (u : Known) → j ≢ id → get_elem? s.views j ≡ some u → Fits log' l.fixed u) → Each (λ u. u.own.numbers ≡ 0 ∷ [] → Below u.parts log') s.views
       → Lists items fixed_of record { words = words'; homes = homes'; views = set s.views id w }
@@ -39,7 +39,7 @@ module _ {V : Type 0} (items : V → List Item) (fixed_of : V → Fixed) where
   }
 
   -- a view with no join to check fits where its own list does
-  pub fits_view : (log : List Item) (fixed : Fixed) (own : Claim) (f : Fixed) (turns parts : ℕ) (stage : Stage) (ticket : ℕ) → f ≡ fixed → 0 < length own.numbers → (stage ≡ Inside → own.seen ≡ log) → After log own → Fits log fixed (view_of own f turns parts stage ticket)
+  pub fits_view : (log : List LogItem) (fixed : Fixed) (own : Claim) (f : Fixed) (turns parts : ℕ) (stage : Stage) (ticket : ℕ) → f ≡ fixed → 0 < length own.numbers → (stage ≡ Inside → own.seen ≡ log) → After log own → Fits log fixed (view_of own f turns parts stage ticket)
   fits_view log fixed own f turns parts stage ticket same named whole after = record {
     same = λ _. same;
     other_same = λ _. same;
@@ -54,7 +54,7 @@ module _ {V : Type 0} (items : V → List Item) (fixed_of : V → Fixed) where
     second_short = omega arith;
   }
 
-  pub fits_more : (log added : List Item) (fixed : Fixed) (u : Known) (ns : List ℕ) → Fits log fixed u → u.stage ≢ Inside → OnlyOf ns added → ((n : ℕ) → In n ns → In n u.own.numbers → ⊥) → Fits (log ++ added) fixed u
+  pub fits_more : (log added : List LogItem) (fixed : Fixed) (u : Known) (ns : List ℕ) → Fits log fixed u → u.stage ≢ Inside → OnlyOf ns added → ((n : ℕ) → In n ns → In n u.own.numbers → ⊥) → Fits (log ++ added) fixed u
   fits_more log added fixed u ns f not only apart = record {
     same = f.same;
     other_same = f.other_same;
@@ -85,7 +85,7 @@ module _ {V : Type 0} (items : V → List Item) (fixed_of : V → Fixed) where
       mathlib_head [] = none
       mathlib_head (h ∷ hs) = h
 
-module _ {V : Type 0} (items : V → List Item) (fixed_of : V → Fixed) (s : State (Option V) Known) (l : Lists items fixed_of s) (id : ℕ) (v : Known) (at : get_elem? s.views id ≡ some v) (zero_alone : v.own.numbers ≡ 0 ∷ []) (some_left : 1 < v.parts) (most : v.parts ≤ 64) where
+module _ {V : Type 0} (items : V → List LogItem) (fixed_of : V → Fixed) (s : State (Option V) Known) (l : Lists items fixed_of s) (id : ℕ) (v : Known) (at : get_elem? s.views id ≡ some v) (zero_alone : v.own.numbers ≡ 0 ∷ []) (some_left : 1 < v.parts) (most : v.parts ≤ 64) where
   abbrev L : Known
   L = divided v
 
@@ -136,7 +136,7 @@ module _ {V : Type 0} (items : V → List Item) (fixed_of : V → Fixed) (s : St
         below = split_below;
       }
 
-module _ {V : Type 0} (items : V → List Item) (fixed_of : V → Fixed) (s : State (Option V) Known) (l : Lists items fixed_of s) (id other : ℕ) (v w : Known) (at : get_elem? s.views id ≡ some v) (ne : other ≢ id) (at' : get_elem? s.views other ≡ some w)
+module _ {V : Type 0} (items : V → List LogItem) (fixed_of : V → Fixed) (s : State (Option V) Known) (l : Lists items fixed_of s) (id other : ℕ) (v w : Known) (at : get_elem? s.views id ≡ some v) (ne : other ≢ id) (at' : get_elem? s.views other ≡ some w)
     (lives : 0 < v.parts) (lives' : 0 < w.parts) where
   abbrev B : Known
   B = united v w

@@ -3,7 +3,7 @@ use Rattle.std.proofs.Common.{◌≡◌, ℕ, true, false, true≢false, ◌<◌
 use Rattle.std.specs.Prelude.{Option, Some, None}
 use Rattle.atomic_table.specs.Table.{rest, Me}
 use Rattle.atomic_table.specs.Seated.{TableId}
-use Rattle.em_log.specs.Items.{Item, Fixed}
+use Rattle.em_log.specs.Items.{LogItem, Fixed}
 use Rattle.em_turn.specs.Numbers.{After}
 use Rattle.em_turn.specs.Views.{Stage, Idle, Waiting, Inside, Known}
 use Rattle.em_turn.specs.Steps.{with_ticket, entered, Seated, Enters}
@@ -25,7 +25,7 @@ module _ {V : Type 0} where
   pub some_same : (x y : V) → Some x ≡ Some y → x ≡ y
   some_same x y e = ap (payload x) e
 
-module _ {V : Type 0} (items : V → List Item) (fixed_of : V → Fixed) where
+module _ {V : Type 0} (items : V → List LogItem) (fixed_of : V → Fixed) where
   -- a look that took the slot, the exchange of its value for None, and that value
   pub enter_gives : (v : Known) (n : ℕ) (m m' m'' : Seated V) (old : Option V) (y : V) → m ≡ (with_ticket v n, []) → Enters items fixed_of m m' → m'.1 ≡ (0, old) ∷ rest m'.1 → m'' ≡ (m'.0, (0, None) ∷ rest m'.1) → old ≡ Some y
       → (m'' ≡ (entered (with_ticket v n) (items y), (0, None) ∷ [])) × (fixed_of y ≡ v.fixed) × After (items y) v.own

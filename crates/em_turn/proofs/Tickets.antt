@@ -7,7 +7,7 @@ use lib.ListN.{get_elem?}
 use Rattle.std.specs.Prelude.{Option, Some}
 use Rattle.atomic_table.specs.Table.{State}
 use Rattle.atomic_table.proofs.Lists.{set_here, set_else, at_longer}
-use Rattle.em_log.specs.Items.{Item}
+use Rattle.em_log.specs.Items.{LogItem}
 use Rattle.em_turn.specs.Views.{Stage, Idle, Waiting, Inside, Known, tickets_at, tickets_of, Each}
 use Rattle.em_turn.specs.Steps.{with_ticket, entered, passed, checked}
 use Rattle.em_turn.specs.Rule.{wrap, InLine, OtherTicket, Homes, Slot, Tickets}
@@ -57,7 +57,7 @@ module _ {V : Type 0} where
       (λ e. waiting-inside v.stage st (ap (λ z. z.stage) (one_view s.views id h.1 v u (sym e) at h.3) ∙ h.4))
       (λ ne. t.apart h.1 id u v ne h.3 at (ap tickets_at h.4) (ap tickets_at st) ((t.lined h.1 u h.3).served h.4 ∙ sym is)))) t.slot
 
-  pub tickets_entered : (s : State (Option V) Known) (t : Tickets s) (id : ℕ) (v : Known) (xs : List Item) → get_elem? s.views id ≡ some v → v.stage ≡ Waiting → v.ticket ≡ t.serving
+  pub tickets_entered : (s : State (Option V) Known) (t : Tickets s) (id : ℕ) (v : Known) (xs : List LogItem) → get_elem? s.views id ≡ some v → v.stage ≡ Waiting → v.ticket ≡ t.serving
       → Tickets record { words = set s.words 1 (get_or s.words 1 0); homes = set s.homes 0 none; views = set s.views id (entered v xs) }
   tickets_entered s t id v xs at st is =
       let w : Known = entered v xs in let c : ℕ = t.count in let k : ℕ = t.serving in let home = served_home s t id v at st is in let mine = t.lined id v at in
@@ -84,7 +84,7 @@ module _ {V : Type 0} where
     λ j u ne e f. t.apart j id u v ne e at (ap tickets_at f) (ap tickets_at st) ((t.lined j u e).served f ∙ sym ((t.lined id v at).served st)),
   )
 
-  pub tickets_passed : (s : State (Option V) Known) (t : Tickets s) (id : ℕ) (v : Known) (y : V) (xs : List Item) → get_elem? s.views id ≡ some v → v.stage ≡ Inside → get_or s.words 1 0 < wrap
+  pub tickets_passed : (s : State (Option V) Known) (t : Tickets s) (id : ℕ) (v : Known) (y : V) (xs : List LogItem) → get_elem? s.views id ≡ some v → v.stage ≡ Inside → get_or s.words 1 0 < wrap
       → Tickets record { words = set s.words 1 ((get_or s.words 1 0 + 1) % wrap); homes = set s.homes 0 (some (Some y)); views = set s.views id (passed v xs) }
   tickets_passed s t id v y xs at st small =
       let w : Known = passed v xs in let c : ℕ = t.count in let k : ℕ = t.serving in let out = inside_out s t id v at st in let mine = t.lined id v at in let is : v.ticket ≡ k = mine.served st in

@@ -4,7 +4,7 @@ use mathlib.Core.Option.{some, none}
 use mathlib.Core.Option as maybe
 use lib.ListN.{get_elem?}
 use Rattle.atomic_table.specs.Table.{State}
-use Rattle.em_log.specs.Items.{Item, Fixed}
+use Rattle.em_log.specs.Items.{LogItem, Fixed}
 use Rattle.em_turn.specs.Numbers.{In, Below, After}
 use Rattle.em_turn.specs.Views.{Known, Inside, tickets_of, total, Each, Pairs}
 
@@ -47,7 +47,7 @@ pub record Tickets {V : Type 0} (s : State (Option V) Known) : Type 0 where
 
 -- what a seat knows of the list and of the fixed part. A seat that is not spent has a number and the fixed part, and with the turn it has seen the whole list.
 -- Until the check the list goes on from those of both seats of a join, neither is longer than the one kept, their numbers were kept, and the second had the fixed part
-pub record Fits (log : List Item) (fixed : Fixed) (v : Known) : Type 0 where
+pub record Fits (log : List LogItem) (fixed : Fixed) (v : Known) : Type 0 where
   pub same : 0 < v.parts → v.fixed ≡ fixed
   pub other_same : 0 < v.parts → v.other ≡ fixed
   pub named : 0 < v.parts → 0 < length v.own.numbers
@@ -68,9 +68,9 @@ abbrev pub Bounds : Known → Known → Type 0
 Bounds v u = v.own.numbers ≡ 0 ∷ [] → (n : ℕ) → In n u.own.numbers → n + v.parts < 65
 
 -- there is one list, which is that of the value at home or, while the slot is out, the one that the seat with the turn has seen
-module _ {V : Type 0} (items : V → List Item) (fixed_of : V → Fixed) where
+module _ {V : Type 0} (items : V → List LogItem) (fixed_of : V → Fixed) where
   pub record Lists (s : State (Option V) Known) : Type 0 where
-    pub log : List Item
+    pub log : List LogItem
     pub fixed : Fixed
     pub home : (x : V) → s.homes ≡ some (Some x) ∷ [] → (items x ≡ log) × (fixed_of x ≡ fixed)
     pub fits : Each (Fits log fixed) s.views

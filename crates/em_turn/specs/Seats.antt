@@ -2,7 +2,7 @@
 use Rattle.std.specs.Prelude.{◌≡◌, ℕ, ◌+◌, ◌-◌, ◌<◌, Bool, true, false, List, [], ◌∷◌, ◌++◌, Option, None}
 use Rattle.atomic_table.specs.Table.{Me}
 pub use Rattle.atomic_table.specs.Seated.{TableId}
-use Rattle.em_log.specs.Items.{Item, Fixed}
+use Rattle.em_log.specs.Items.{LogItem, Fixed}
 use Rattle.em_turn.specs.Numbers.{After, claim, longer}
 use Rattle.em_turn.specs.Views.{Stage, Idle, Waiting, Inside, Known}
 
@@ -10,7 +10,7 @@ use Rattle.em_turn.specs.Views.{Stage, Idle, Waiting, Inside, Known}
 pub record SeatView : Type 0 where
   pub turn : TableId
   pub numbers : List ℕ
-  pub seen : List Item
+  pub seen : List LogItem
   pub fixed : Fixed
   pub turns : ℕ
   pub spare : ℕ
@@ -40,7 +40,7 @@ abbrev pub IsSettled : {V : Type 0} → Me (Option V) Known → Type 0
 IsSettled me = (0 < me.0.parts) × (is_waiting me.0.stage ≡ false) × (me.1 ≡ carries me.0.stage)
 
 -- the list begins with what the seat has seen, and goes on without items of its numbers
-abbrev pub GoesOn : List Item → SeatView → Type 0
+abbrev pub GoesOn : List LogItem → SeatView → Type 0
 GoesOn xs s = After xs (claim s.numbers s.seen)
 
 -- the seat that `new` gives
@@ -48,11 +48,11 @@ abbrev pub first_seat : TableId → Fixed → SeatView
 first_seat id fixed = record { turn = id; numbers = 0 ∷ []; seen = []; fixed = fixed; turns = 0; spare = 63; inside = false }
 
 -- a seat that was handed a value with this list
-abbrev pub with_turn : SeatView → List Item → SeatView
+abbrev pub with_turn : SeatView → List LogItem → SeatView
 with_turn s xs = record { turn = s.turn; numbers = s.numbers; seen = xs; fixed = s.fixed; turns = s.turns + 1; spare = s.spare; inside = true }
 
 -- a seat that gave back a value with this list
-abbrev pub after_turn : SeatView → List Item → SeatView
+abbrev pub after_turn : SeatView → List LogItem → SeatView
 after_turn s xs = record { turn = s.turn; numbers = s.numbers; seen = xs; fixed = s.fixed; turns = s.turns; spare = s.spare; inside = false }
 
 -- a seat off which another was split

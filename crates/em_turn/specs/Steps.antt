@@ -9,7 +9,7 @@
 -- There are no others. Between a look and a pass on the value is moved out of the slot and into it again, which changes no view.
 use Rattle.std.specs.Prelude.{◌≡◌, ◌≢◌, ℕ, ◌+◌, ◌-◌, List, [], ◌∷◌, ◌++◌, Option, Some, None}
 use Rattle.atomic_table.specs.Table.{Me, Step}
-use Rattle.em_log.specs.Items.{Item, Fixed}
+use Rattle.em_log.specs.Items.{LogItem, Fixed}
 use Rattle.em_turn.specs.Numbers.{claim, After, longer}
 use Rattle.em_turn.specs.Views.{Known, Idle, Waiting, Inside, nothing, view_of}
 
@@ -22,10 +22,10 @@ opened fixed = view_of (claim (0 ∷ []) []) fixed 0 64 Idle 0
 abbrev pub with_ticket : Known → ℕ → Known
 with_ticket v n = view_of v.own v.fixed (v.turns + 1) v.parts Waiting n
 
-abbrev pub entered : Known → List Item → Known
+abbrev pub entered : Known → List LogItem → Known
 entered v xs = view_of (claim v.own.numbers xs) v.fixed v.turns v.parts Inside v.ticket
 
-abbrev pub passed : Known → List Item → Known
+abbrev pub passed : Known → List LogItem → Known
 passed v xs = view_of (claim v.own.numbers xs) v.fixed v.turns v.parts Idle v.ticket
 
 -- a seat after a split
@@ -69,7 +69,7 @@ Seated V = Me (Option V) Known
 abbrev pub Draws : {V : Type 0} → Step (Option V) → Seated V → ℕ → Seated V → Type 0
 Draws st m n m' = m' ≡ (with_ticket m.0 n, m.1)
 
-module _ {V : Type 0} (items : V → List Item) (fixed_of : V → Fixed) where
+module _ {V : Type 0} (items : V → List LogItem) (fixed_of : V → Fixed) where
   -- the slot goes out with the seat, and its value's list goes on from what the seat has seen, without items of its numbers
   abbrev pub Enters : Seated V → Seated V → Type 0
   Enters m m' = (x : V) × (m' ≡ (entered m.0 (items x), (0, Some x) ∷ m.1)) × (fixed_of x ≡ m.0.fixed) × After (items x) m.0.own
@@ -77,13 +77,13 @@ module _ {V : Type 0} (items : V → List Item) (fixed_of : V → Fixed) where
   abbrev pub Looks : Step (Option V) → Seated V → ℕ → Seated V → Type 0
   Looks st m n m' = (n ≡ m.0.ticket → Enters m m') × (n ≢ m.0.ticket → m' ≡ m)
 
-module _ {V : Type 0} (items : V → List Item) where
-  abbrev pub list_in : Option V → List Item
+module _ {V : Type 0} (items : V → List LogItem) where
+  abbrev pub list_in : Option V → List LogItem
   list_in None = []
   list_in (Some x) = items x
 
   -- the list of the value in the slot that is out with the seat
-  abbrev pub list_of : List (ℕ × Option V) → List Item
+  abbrev pub list_of : List (ℕ × Option V) → List LogItem
   list_of [] = []
   list_of (c ∷ cs) = list_in c.1
 

@@ -1,6 +1,6 @@
 //! The lock and its calls.
 ghost use Rattle.std.specs.Prelude.{◌≡◌, ◌+◌, ◌<◌, ◌++◌, true, false, List, [], ◌∷◌, IfOk};
-ghost use Rattle.em_log.specs.Items.{Item};
+ghost use Rattle.em_log.specs.Items.{LogItem};
 ghost use Rattle.em_turn.specs.Numbers.{OnlyOf};
 ghost use Rattle.em_turn.specs.Seats.{GoesOn, first_seat, with_turn, after_turn, after_split, split_off, joined};
 
@@ -135,7 +135,7 @@ impl<V: Listed> Turn<V> {
     /// Gives the value back, with none but items of the seat's numbers added to its list, and passes the turn on.
     pub fn leave(&self, seat: &mut TurnSeat<V>, value: V)
         requires here { (seat.old.turn ≡ self.now) × (seat.old.inside ≡ true) }
-        requires list { (added : List Item) × (V.items value ≡ seat.old.seen ++ added) × OnlyOf seat.old.numbers added }
+        requires list { (added : List LogItem) × (V.items value ≡ seat.old.seen ++ added) × OnlyOf seat.old.numbers added }
         requires fixed { V.fixed value ≡ seat.old.fixed }
         ensures { seat.new ≡ after_turn seat.old (V.items value) }
     {

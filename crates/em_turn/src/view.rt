@@ -1,6 +1,6 @@
 //! What the rule of the lock reads of a value, and of a seat.
 ghost use Rattle.std.specs.Prelude.{List};
-ghost use Rattle.em_log.specs.Items.{Item, Fixed};
+ghost use Rattle.em_log.specs.Items.{LogItem, Fixed};
 
 use std::marker::Model;
 
@@ -8,7 +8,7 @@ use std::marker::Model;
 pub trait Listed {
     ghost fixed: { Self → Fixed };
 
-    ghost items: { Self → List Item };
+    ghost items: { Self → List LogItem };
 }
 
 /// What a seat knows. It exists in proofs alone, and no value of it is made.

@@ -1,4 +1,4 @@
-use Rattle.em_log.proofs.Blocks.{block-lawful}
+use Rattle.em_moments.proofs.Blocks.{block-lawful}
 use Rattle.em_laws.proofs.expected.block_is_lawful.Goals as goal
 
 pub returns : goal.returns

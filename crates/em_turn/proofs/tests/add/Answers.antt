@@ -1,6 +1,6 @@
 use Rattle.std.proofs.Common.{◌≡◌, ◌++◌, ◌∷◌, [], map, cond, Bool, true, false, List, ℕ, refl, sym, ap, ◌∙◌, subst, inl, is_ok, append-nil}
 use Rattle.std.proofs.lemmas.List.{map-append}
-use Rattle.em_log.specs.Items.{Item, Logged}
+use Rattle.em_log.specs.Items.{LogItem, Logged}
 use Rattle.em_log.specs.declared.entry.Entry.{Entry}
 use Rattle.em_log.specs.declared.entry.What.TheVariants.{Say}
 use Rattle.em_turn.specs.Numbers.{In, OnlyOf}

@@ -1,5 +1,5 @@
 -- What a step is: which operation it belongs to, and what of that operation had and had not come.
-use Rattle.std.proofs.Common.{◌≡◌, ◌≢◌, ◌⊎◌, inl, inr, ℕ, ◌==◌, Bool, true, false, not, List, [], ◌∷◌, Option, Some, None, refl, ◌∙◌, ap}
+use Rattle.std.proofs.Common.{◌≡◌, ◌≢◌, ◌⊎◌, inl, inr, ℕ, ◌==◌, Bool, true, false, not, List, [], ◌∷◌, Option, Some, None, refl, sym, ◌∙◌, ap}
 use Rattle.std.specs.Option.{option_or, option_and_then}
 use Rattle.std.proofs.lemmas.Bool.Decides.{eqb_tells}
 use Rattle.em_log.specs.declared.declarations.Declarations.{Declarations}
@@ -9,8 +9,8 @@ use Rattle.em_log.specs.declared.entry.Begun.{Begun}
 use Rattle.em_log.specs.declared.ids.EoId.{EoId}
 use Rattle.em_log.specs.declared.ids.GroupId.{GroupId}
 use Rattle.em_log.specs.History.{Past, has}
-use Rattle.em_log.specs.Declarations.{below}
-use Rattle.em_log.specs.Operations.{Operation, operation, operations, global_done, acked, last_acker, op_id, only_if, is_core, owed_for, owed_to, first_owed, step}
+use Rattle.em_log.specs.Declarations.{below, is_number}
+use Rattle.em_log.specs.Operations.{Operation, operation, operations, global_done, acked, last_acker, op_id, only_if, owed_for, owed_to, first_owed, step}
 
 -- core c owes this step: an acknowledgement of a change, or the entry of an operation's context
 pub data Owes (k : Declarations) (past : Past) (c : ℕ) (w : What) : Type 0 where
@@ -33,12 +33,12 @@ not-false : (b : Bool) → not b ≡ true → b ≡ false
 not-false true h = absurd cc
 not-false false h = refl
 
-is_core-some : (c : ℕ) (o : Option ℕ) → is_core c o ≡ true → o ≡ Some c
-is_core-some c None h = absurd cc
-is_core-some c (Some d) h = by_test (eqb_tells d c)
+pub is_number-some : (n : ℕ) (o : Option ℕ) → is_number n o ≡ true → o ≡ Some n
+is_number-some n None h = absurd cc
+is_number-some n (Some m) h = by_test (eqb_tells n m)
   where
-    by_test : (((d == c) ≡ true) × (d ≡ c)) ⊎ (((d == c) ≡ false) × (d ≢ c)) → Some d ≡ Some c
-    by_test (inl p) = ap Some p.1
+    by_test : (((n == m) ≡ true) × (n ≡ m)) ⊎ (((n == m) ≡ false) × (n ≢ m)) → Some m ≡ Some n
+    by_test (inl p) = ap Some (sym p.1)
     by_test (inr p) = absurd (cc (p.0, h))
 
 owes-by : (k : Declarations) (past : Past) (c n : ℕ) (o : Operation) (j : Begun) (g : Option Bool) (w : What) → operation past n ≡ Some o → o.job ≡ j
@@ -57,11 +57,11 @@ owes-by k past c n o (Begun.Start x) (Some false) w is job done e = absurd cc
 owes-by k past c n o (Begun.Stop x) None w is job done e = by_acked (has (acked past n) c) refl e
   where
     by_acked : (b : Bool) → has (acked past n) c ≡ b
-        → option_or (only_if (not b) (What.Enter (Body.LocalStop (op_id n)))) (only_if (is_core c (last_acker k past n)) (What.Enter (Body.GlobalStop (op_id n)))) ≡ Some w
+        → option_or (only_if (not b) (What.Enter (Body.LocalStop (op_id n)))) (only_if (is_number c (last_acker k past n)) (What.Enter (Body.GlobalStop (op_id n)))) ≡ Some w
         → Owes k past c w
     by_acked false at e = OwesLocalStop n o x is job done at cc
     by_acked true at e =
-        let f = only_if-true _ _ w e in OwesGlobalStop n o x is job done at (is_core-some c (last_acker k past n) f.0) f.1
+        let f = only_if-true _ _ w e in OwesGlobalStop n o x is job done at (is_number-some c (last_acker k past n) f.0) f.1
 owes-by k past c n o (Begun.Stop x) (Some ok) w is job done e = absurd cc
 
 owed-owes : (k : Declarations) (past : Past) (c n : ℕ) (w : What) → owed_to k past c n ≡ Some w → Owes k past c w

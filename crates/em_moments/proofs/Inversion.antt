@@ -13,10 +13,10 @@ use Rattle.em_log.specs.Places.{taken}
 use Rattle.em_log.specs.Eligible.{is_choice, take_size, ticket_drawn}
 use Rattle.em_log.specs.Tails.{start_of, tail}
 use Rattle.em_log.specs.Lawful.{due, due_after, Begins, Boots, Steps, Takes, Starts, Untakes, Asks, IsNext, Allowed, AllAllowed}
-use Rattle.em_log.proofs.Asked.{Asked, lead-asked}
-use Rattle.em_log.proofs.Steps.{Owes, step-owes}
-use Rattle.em_log.proofs.Choices.{IsBetween, between-parts, IsReady, choice-ready}
-use Rattle.em_log.proofs.Follows.{Follows, FirstStart, AllDue, tail-follows}
+use Rattle.em_moments.proofs.Asked.{Asked, lead-asked}
+use Rattle.em_moments.proofs.Steps.{Owes, step-owes}
+use Rattle.em_moments.proofs.Choices.{IsBetween, between-parts, IsReady, choice-ready}
+use Rattle.em_moments.proofs.Follows.{Follows, FirstStart, AllDue, tail-follows}
 
 -- how an entry of core c came after past: it begins a block, or it follows in the ask under way. A start is told
 -- alike in both cases

@@ -32,11 +32,11 @@ use Rattle.em_log.specs.EventGroups.{applications, busy, is_current, total, memb
 use Rattle.em_log.specs.Leads.{event_with, item_again, stamp_now, open_number, dequeued, claimed, notes_refusal, count_refusal, increment_refusal, aims_at_object, aims_at_group, operations_fault, mask_fault, call_of, refusal, scope}
 use Rattle.em_log.specs.Tails.{has_failed}
 use Rattle.em_log.specs.Lawful.{may_ask, Allowed, AllAllowed}
-use Rattle.em_log.proofs.Asked.{Asked, Refused, Allocs, Frees, Sends, SendsIn, Keeps, Claims, Dequeues, Says, Enables, Disables, EndsAtomic, EndsOrdered, EndsGroup, Applies, Increments, Aborts, BeginsStart, BeginsStop, BeginsModify, Ends, asks-open}
-use Rattle.em_log.proofs.Steps.{Owes, OwesAck, OwesGlobalStart, OwesLocalStart, OwesLocalStop, OwesGlobalStop}
-use Rattle.em_log.proofs.Choices.{IsBetween, IsReady}
-use Rattle.em_log.proofs.Follows.{Follows, FirstStart, Outs, NoteLost, AcksStart, AcksStop, GlobalStarts, GlobalStops, ChangeDone, StartDone, StartFailed, StopDone, Notifies}
-use Rattle.em_log.proofs.Inversion.{Came, ByBoot, ByStep, ByTake, ByStart, ByUntake, ByAsk, ByTail, allowed-came}
+use Rattle.em_moments.proofs.Asked.{Asked, Refused, Allocs, Frees, Sends, SendsIn, Keeps, Claims, Dequeues, Says, Enables, Disables, EndsAtomic, EndsOrdered, EndsGroup, Applies, Increments, Aborts, BeginsStart, BeginsStop, BeginsModify, Ends, asks-open}
+use Rattle.em_moments.proofs.Steps.{Owes, OwesAck, OwesGlobalStart, OwesLocalStart, OwesLocalStop, OwesGlobalStop}
+use Rattle.em_moments.proofs.Choices.{IsBetween, IsReady}
+use Rattle.em_moments.proofs.Follows.{Follows, FirstStart, Outs, NoteLost, AcksStart, AcksStop, GlobalStarts, GlobalStops, ChangeDone, StartDone, StartFailed, StopDone, Notifies}
+use Rattle.em_moments.proofs.Inversion.{Came, ByBoot, ByStep, ByTake, ByStart, ByUntake, ByAsk, ByTail, allowed-came}
 
 pub data EnterMoment (k : Declarations) (past : Past) (c : ℕ) (b : Body) : Type 0 where
   EntersBoot : past ≡ [] → c ≡ 0 → b ≡ Body.Boot → EnterMoment k past c b

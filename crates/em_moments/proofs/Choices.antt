@@ -13,7 +13,7 @@ use Rattle.em_log.specs.Arrivals.{Item}
 use Rattle.em_log.specs.Places.{waiting, taken}
 use Rattle.em_log.specs.Atomic.{is_empty}
 use Rattle.em_log.specs.Eligible.{is_between, runs, is_in_group, is_unheld, ready, eligible, is_best, is_choice}
-use Rattle.em_log.proofs.Asked.{and-true, is_none-none}
+use Rattle.em_moments.proofs.Asked.{and-true, is_none-none}
 
 -- the parts of 'between contexts'
 pub record IsBetween (k : Declarations) (past : Past) (c : ℕ) : Type 0 where

@@ -22,14 +22,14 @@ use Rattle.em_log.specs.Handles.{Minting, minting}
 use Rattle.em_log.specs.Operations.{operation, notes_of, all_acked, step}
 use Rattle.em_log.specs.States.{closed}
 use Rattle.em_log.specs.Order.{Sent, open_ticket, let_in}
-use Rattle.em_log.specs.Arrivals.{Item, send_entering}
+use Rattle.em_log.specs.Arrivals.{Item, note_entering, send_entering}
 use Rattle.em_log.specs.Places.{taken}
 use Rattle.em_log.specs.EventGroups.{is_current, applied_notes, count, open_stamp}
 use Rattle.em_log.specs.Leads.{call_of, refusal, own, refused_or, lead}
-use Rattle.em_log.specs.Tails.{start_of, first_start, out_of, out, outs, note_sent, note_result, note_results, completion, notification, has_failed, ack_tail, global_start_tail, end_tail, tail_of, tail}
+use Rattle.em_log.specs.Tails.{start_of, first_start, out_of, out, outs, note_result, note_results, completion, notification, has_failed, ack_tail, global_start_tail, end_tail, tail_of, tail}
 use Rattle.em_log.specs.Lawful.{Begins, Boots, Steps, Takes, Starts, Untakes, Asks}
-use Rattle.em_log.proofs.Choices.{choice-ready}
-use Rattle.em_log.proofs.Steps.{Owes, OwesAck, OwesGlobalStart, OwesLocalStart, OwesLocalStop, OwesGlobalStop, step-owes}
+use Rattle.em_moments.proofs.Choices.{choice-ready}
+use Rattle.em_moments.proofs.Steps.{Owes, OwesAck, OwesGlobalStart, OwesLocalStart, OwesLocalStop, OwesGlobalStop, step-owes}
 
 -- an entry of core d that comes after the first of an ask, past being the history before it; before is the history
 -- before the ask
@@ -92,13 +92,13 @@ outs-loose : (k : Declarations) (past : Past) (ss : List Sent) → AllLoose k (o
 outs-loose k past [] = NoLoose
 outs-loose k past (s ∷ ss) = loose-append k (out-loose k past s) (outs-loose k past ss)
 
-note-loose : (k : Declarations) (now : Past) (d : ℕ) (n : Note) (o : Option ℕ) → AllLoose k (note_result k now d n o)
-note-loose k now d n None = out-loose k now (note_sent d n)
-note-loose k now d n (Some why) = MoreLoose (LooseLost n refl) NoLoose
+note-loose : (k : Declarations) (now : Past) (n : Note) (o : Option Sent) → AllLoose k (note_result k now n o)
+note-loose k now n None = MoreLoose (LooseLost n refl) NoLoose
+note-loose k now n (Some s) = out-loose k now s
 
 notes-loose : (k : Declarations) (now : Past) (d : ℕ) (ns : List Note) → AllLoose k (note_results k now d ns)
 notes-loose k now d [] = NoLoose
-notes-loose k now d (n ∷ ns) = loose-append k (note-loose k now d n (closed k now n.queue.0)) (notes-loose k now d ns)
+notes-loose k now d (n ∷ ns) = loose-append k (note-loose k now n (note_entering d n (closed k now n.queue.0))) (notes-loose k now d ns)
 
 loose-follows : (k : Declarations) (past : Past) (d : ℕ) (w : What) → IsLoose k w → Follows k past d w
 loose-follows k past d w (LooseOut q kind words is e) = Outs q kind words is e
