@@ -1,0 +1,195 @@
+//! The operations of a run.
+ghost use Rattle.std.specs.Prelude.{◌≡◌, ◌<◌, ◌≤◌, [], ◌∷◌, List, Some, None, IfOk, IfSome, IsSome, MatchResult};
+ghost use Rattle.std.specs.Option.{option_map};
+ghost use Rattle.em_log.specs.Operations.{op_id};
+ghost use Rattle.em_log.specs.Bounds.{core_limit, operation_limit};
+ghost use Rattle.em_acks.specs.Steps.{AckStep, Began, GlobalEnded, Acknowledged};
+ghost use Rattle.em_acks.specs.Operations.{operations, pending, begin_fault, step, left_after};
+ghost use Rattle.em_acks.specs.State.{core_count, owed_at, find_op, first_owed_in, first_at, refusal_at};
+ghost use Rattle.em_acks.specs.Stands.{Stands};
+ghost use Rattle.em_acks.specs.Changes.{begun_by, ended_by, acked_by, left_at};
+
+use crate::job::{Job, Left, Phase, Target};
+use crate::unfinished::{Owing, Unfinished, left_by, place_of, set_owing};
+use em_log::{Config, CoreId, Fault, MAX_OPERATIONS, NoMemory, OpId};
+use std::alloc::Global;
+use std::marker::Model;
+
+#[cfg(test)]
+mod tests;
+
+/// The operations that have begun: how many, and which of them are not done, in the order of their numbers.
+#[derive(Drop)]
+pub struct Acks {
+    cores: u8,
+    begun: u16,
+    unfinished: Vec<Unfinished>,
+}
+
+impl Model for Acks {
+    ghost use Rattle.std.specs.Prelude.{vec_capacity};
+    ghost use Rattle.em_acks.specs.State.{AckState, state_code};
+    ghost use Rattle.em_acks.specs.Whole.{IsWhole};
+
+    ghost Value = { AckState };
+
+    ghost coded = { state_code };
+
+    ghost view = { λ a. record { cores = a.cores; begun = a.begun; unfinished = a.unfinished.items } };
+
+    ghost invariant = { λ a. IsWhole a.cores a.begun a.unfinished.items (vec_capacity a.unfinished) };
+}
+
+impl Acks {
+    /// No operation has begun, and there is room for all of a run. Err is want of memory.
+    pub fn build(alloc: Global, config: &Config) -> Result<Acks, NoMemory>
+        requires { config.now.cores ≤ core_limit }
+        ensures shape { IfOk result (λ a. core_count a ≡ config.now.cores) }
+        ensures stands { IfOk result (λ a. Stands a []) }
+    {
+        let mut unfinished = Vec::new(alloc);
+        if unfinished.reserve(usize::from(MAX_OPERATIONS)).is_err() {
+            return Err(NoMemory);
+        }
+        Ok(Acks {
+            cores: config.cores,
+            begun: 0,
+            unfinished,
+        })
+    }
+
+    /// The operation of this target that is not done, if there is one.
+    pub fn pending(&self, target: Target) -> Option<OpId>
+        ensures answer { (s : List AckStep) → Stands self.now s → result ≡ option_map op_id (pending (core_count self.now) s target) }
+    {
+        self.first_of(target)
+    }
+
+    /// Whether an operation of this target may begin. Refused where one is not done, with its number, and then where as many
+    /// have begun as may in a run.
+    pub fn can_begin(&self, target: Target) -> Result<(), Fault>
+        ensures answer { (s : List AckStep) → Stands self.now s → MatchResult result (λ _. begin_fault (core_count self.now) s target ≡ None) (λ f. begin_fault (core_count self.now) s target ≡ Some f) }
+    {
+        self.check(target)
+    }
+
+    /// Begins the next operation, and answers its number. Refused exactly where `can_begin` refuses.
+    pub fn begin(&mut self, core: CoreId, job: Job, target: Target) -> Result<OpId, Fault>
+        requires { core.0 < core_count self.old }
+        ensures answer { (s : List AckStep) → Stands self.old s → MatchResult result (λ op. (begin_fault (core_count self.old) s target ≡ None) × (op.0 ≡ operations s)) (λ f. begin_fault (core_count self.old) s target ≡ Some f) }
+        ensures stands { (s : List AckStep) → Stands self.old s → MatchResult result (λ _. Stands self.new (Began core.0 job target ∷ s)) (λ _. Stands self.new s) }
+        ensures same_shape { core_count self.new ≡ core_count self.old }
+    {
+        self.check(target)?;
+        Ok(self.open(core, job, target))
+    }
+
+    /// The step of the least operation that the core owes, if it owes one.
+    pub fn owed(&self, core: CoreId) -> Option<(OpId, Phase)>
+        requires { core.0 < core_count self.now }
+        ensures answer { (s : List AckStep) → Stands self.now s → result ≡ step (core_count self.now) s core.0 }
+        ensures there { (s : List AckStep) → Stands self.now s → IfSome result (λ r. owed_at self.now core.0 r.0.0 ≡ Some r.1) }
+    {
+        self.first_owed(core)
+    }
+
+    /// Ends the global step of an operation, which the core owes. A start that went well is then owed by every core; one
+    /// that failed is done, and so is a stop.
+    pub fn global(&mut self, core: CoreId, op: OpId, ok: bool)
+        requires core { core.0 < core_count self.old }
+        requires owed { owed_at self.old core.0 op.0 ≡ Some Phase.Global }
+        ensures stands { (s : List AckStep) → Stands self.old s → Stands self.new (GlobalEnded core.0 op.0 ok ∷ s) }
+        ensures same_shape { core_count self.new ≡ core_count self.old }
+    {
+        self.end(op, ok);
+    }
+
+    /// Ends the local step of an operation, which the core owes, and tells how many cores still owe theirs.
+    pub fn ack(&mut self, core: CoreId, op: OpId) -> Left
+        requires core { core.0 < core_count self.old }
+        requires owed { owed_at self.old core.0 op.0 ≡ Some Phase.Local }
+        ensures answer { (s : List AckStep) → Stands self.old s → result ≡ left_after (core_count self.old) (Acknowledged core.0 op.0 ∷ s) op.0 }
+        ensures stands { (s : List AckStep) → Stands self.old s → Stands self.new (Acknowledged core.0 op.0 ∷ s) }
+        ensures same_shape { core_count self.new ≡ core_count self.old }
+    {
+        self.acknowledge(core, op)
+    }
+
+    /// The first operation of this target.
+    fn first_of(&self, target: Target) -> Option<OpId>
+        ensures { result ≡ first_at target self.now.unfinished }
+    {
+        for operation in self.unfinished.as_slice() {
+            if operation.target.is(target) {
+                return Some(operation.op);
+            }
+        }
+        None
+    }
+
+    /// Refuses where an operation of this target is not done, and then where as many have begun as may in a run.
+    fn check(&self, target: Target) -> Result<(), Fault>
+        ensures { MatchResult result (λ _. refusal_at self.now target ≡ None) (λ f. refusal_at self.now target ≡ Some f) }
+    {
+        if let Some(op) = self.first_of(target) {
+            return Err(Fault::OpPending(op));
+        }
+        if self.begun >= MAX_OPERATIONS {
+            return Err(Fault::OpsSpent(MAX_OPERATIONS));
+        }
+        Ok(())
+    }
+
+    /// The step that the core owes to the first operation to which it owes one.
+    fn first_owed(&self, core: CoreId) -> Option<(OpId, Phase)>
+        ensures { result ≡ first_owed_in core.0 self.now.unfinished }
+    {
+        for operation in self.unfinished.as_slice() {
+            if let Some(phase) = operation.owing.owed(core) {
+                return Some((operation.op, phase));
+            }
+        }
+        None
+    }
+
+    /// Adds the next operation at the end.
+    fn open(&mut self, core: CoreId, job: Job, target: Target) -> OpId
+        requires { self.old.begun < operation_limit }
+        ensures value { self.new ≡ begun_by self.old core.0 job target }
+        ensures number { result.0 ≡ self.old.begun }
+    {
+        let op = OpId(self.begun);
+        self.unfinished.push_reserved(Unfinished {
+            op,
+            job,
+            target,
+            owing: Owing::at_first(job, core, self.cores),
+        });
+        self.begun += 1;
+        op
+    }
+
+    /// Ends the global step of this operation.
+    fn end(&mut self, op: OpId, ok: bool)
+        requires { IsSome (find_op op.0 self.old.unfinished) }
+        ensures { self.new ≡ ended_by self.old op.0 ok }
+    {
+        let place = place_of(self.unfinished.as_slice(), op);
+        let next = self.unfinished[place].ended(self.cores, ok);
+        set_owing(&mut self.unfinished, place, next);
+    }
+
+    /// Ends the local step of this operation for one core.
+    fn acknowledge(&mut self, core: CoreId, op: OpId) -> Left
+        requires core { core.0 < core_count self.old }
+        requires there { IsSome (find_op op.0 self.old.unfinished) }
+        ensures value { self.new ≡ acked_by self.old core.0 op.0 }
+        ensures left { result ≡ left_at self.old core.0 op.0 }
+    {
+        let place = place_of(self.unfinished.as_slice(), op);
+        let next = self.unfinished[place].acked(core);
+        let left = left_by(&next);
+        set_owing(&mut self.unfinished, place, next);
+        left
+    }
+}
