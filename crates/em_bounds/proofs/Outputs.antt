@@ -37,7 +37,7 @@ use Rattle.em_laws.proofs.Dones.{done-completes}
 use Rattle.em_laws.proofs.Respects.{DoneNow, done-now}
 use Rattle.em_laws.proofs.Spent.{spending-kept, notes-spent, applied-spent, unended}
 use Rattle.em_laws.proofs.Entering.{times_allowed, times_allowed_by, times_allowed_by-le, times_allowed-grows, one_if_ok, gains-nothing, gains-send, gains-let_in, no-occ}
-use Rattle.em_bounds.proofs.Tallies.{shorter}
+use Rattle.em_bounds.proofs.Lengths.{shorter}
 use Rattle.em_bounds.proofs.Payments.{total}
 
 -- what comes at an entry: what enters, and the notes of a completion whose queue is closed

@@ -26,8 +26,9 @@ use Rattle.em_laws.proofs.Begun.{numbered}
 use Rattle.em_laws.proofs.Steps.{contexts, global-ends, Finishing, FinishingStart, FinishingStop}
 use Rattle.em_laws.proofs.Dones.{done-completes}
 use Rattle.em_laws.proofs.Respects.{done-now}
-use Rattle.em_bounds.specs.Paid.{tally, opened, holding}
-use Rattle.em_bounds.proofs.Tallies.{one_if-le, tally-one, tally-le, tally-more, tally-none}
+use Rattle.std.specs.List.{count_by}
+use Rattle.em_bounds.specs.Paid.{opened, holding}
+use Rattle.em_bounds.proofs.Sums.{one_if-le, count-one, count-le, count-more, count-none}
 
 -- the sum over the entries
 abbrev pub total : (What → ℕ) → Past → ℕ
@@ -49,14 +50,14 @@ opened-step : (k : Declarations) (past : Past) (d : ℕ) (w : What) → d < k.co
     → opened k (entry_by d w ∷ past) + one_if (is_some (context past d)) ≡ opened k past + one_if (is_some (context_after w (context past d)))
 opened-step k past d w lt =
     let own : context (entry_by d w ∷ past) d ≡ context_after w (context past d) = if-own d _ _ in
-    tally-one (λ c. is_some (context past c)) (λ c. is_some (context (entry_by d w ∷ past) c)) d k.cores lt (λ c ne. by_test c (compared d c) ne)
+    count-one (λ c. is_some (context past c)) (λ c. is_some (context (entry_by d w ∷ past) c)) d k.cores lt (λ c ne. by_test c (compared d c) ne)
     ∙ ap (λ o. opened k past + one_if (is_some o)) own
   where
     by_test : (c : ℕ) → Compared d c → c ≢ d → is_some (context (entry_by d w ∷ past) c) ≡ is_some (context past c)
     by_test c (Same t e) ne = absurd (ne (sym e))
     by_test c (Other f e) ne = rw f refl
 
-entered-closed : (k : Declarations) (past : Past) (d : ℕ) (w : What) → ((b : _) → w ≡ What.Enter b → EnterMoment k past d b) → (b : _) → w ≡ What.Enter b → context past d ≡ None
+pub entered-closed : (k : Declarations) (past : Past) (d : ℕ) (w : What) → ((b : _) → w ≡ What.Enter b → EnterMoment k past d b) → (b : _) → w ≡ What.Enter b → context past d ≡ None
 entered-closed k past d w m b is = by_moment (m b is)
   where
     by_moment : EnterMoment k past d b → context past d ≡ None
@@ -80,7 +81,7 @@ context-pays k l past d (What.End lost cells) lt m =
 context-pays k l past d w lt m = let step = opened-step k past d w lt in omega (arith, step)
 
 pub contexts-paid : (k : Declarations) (l : Limits) (past : Past) → AllAllowed k l past → total ended_contexts past + opened k past ≤ total begun_contexts past
-contexts-paid k l [] all = let none = tally-none k.cores in omega (arith, none)
+contexts-paid k l [] all = let none = count-none (λ c. is_some (context [] c)) k.cores (λ c. refl) in omega (arith, none)
 contexts-paid k l (e ∷ past) all =
     let older = contexts-paid k l past all.1 in
     let here = context-pays k l past e.core.0 e.what all.0.core (allowed-moment k l past e all.1 all.0) in
@@ -103,7 +104,7 @@ holding-step : (k : Declarations) (past : Past) (d : ℕ) (w : What) → d < k.c
     → holding k (entry_by d w ∷ past) + one_if (has_some (taken k past d)) ≡ holding k past + one_if (has_some (taken_after k past d w (taken k past d)))
 holding-step k past d w lt =
     let own : taken k (entry_by d w ∷ past) d ≡ taken_after k past d w (taken k past d) = if-own d _ _ in
-    tally-one (λ c. has_some (taken k past c)) (λ c. has_some (taken k (entry_by d w ∷ past) c)) d k.cores lt (λ c ne. by_test c (compared d c) ne)
+    count-one (λ c. has_some (taken k past c)) (λ c. has_some (taken k (entry_by d w ∷ past) c)) d k.cores lt (λ c ne. by_test c (compared d c) ne)
     ∙ ap (λ xs. holding k past + one_if (has_some xs)) own
   where
     by_test : (c : ℕ) → Compared d c → c ≢ d → has_some (taken k (entry_by d w ∷ past) c) ≡ has_some (taken k past c)
@@ -131,7 +132,7 @@ take-pays k l past d (What.EndAtomic rest cells) lt m =
 take-pays k l past d w lt m = let step = holding-step k past d w lt in omega (arith, step)
 
 pub takes-paid : (k : Declarations) (l : Limits) (past : Past) → AllAllowed k l past → total takes_undone past + holding k past ≤ total takes_made past
-takes-paid k l [] all = let none = tally-none k.cores in omega (arith, none)
+takes-paid k l [] all = let none = count-none (λ c. has_some (taken k [] c)) k.cores (λ c. refl) in omega (arith, none)
 takes-paid k l (e ∷ past) all =
     let older = takes-paid k l past all.1 in
     let here = take-pays k l past e.core.0 e.what all.0.core (allowed-moment k l past e all.1 all.0) in
@@ -151,7 +152,7 @@ abbrev pub operations_done : What → ℕ
 operations_done (What.Done op ok) = 1
 operations_done w = 0
 
-begun-total : (past : Past) → operations past ≡ total operations_begun past
+pub begun-total : (past : Past) → operations past ≡ total operations_begun past
 begun-total [] = refl
 begun-total (e ∷ past) = by_what e.what (begun-total past)
   where
@@ -179,11 +180,11 @@ done-here k l past d op ok all m =
     record { number = numbered k l past all op.0 q.started q.begun; before = ap is_some q.undone }
 
 global-pays : (k : Declarations) (l : Limits) (past : Past) (d : ℕ) (w : What) → AllAllowed k l past → Moment k l past d w
-    → total globals_done past ≤ tally (λ n. is_some (global_done past n)) (below (operations past))
-    → globals_done w + total globals_done past ≤ tally (λ n. is_some (global_done (entry_by d w ∷ past) n)) (below (operations (entry_by d w ∷ past)))
+    → total globals_done past ≤ count_by (λ n. is_some (global_done past n)) (below (operations past))
+    → globals_done w + total globals_done past ≤ count_by (λ n. is_some (global_done (entry_by d w ∷ past) n)) (below (operations (entry_by d w ∷ past)))
 global-pays k l past d (What.GlobalDone op ok) all m older =
     let now = global-now k l past d op ok all m in
-    let step = tally-one (λ n. is_some (global_done past n)) (λ n. is_some (global_done (entry_by d (What.GlobalDone op ok) ∷ past) n)) op.0 (operations past) now.number
+    let step = count-one (λ n. is_some (global_done past n)) (λ n. is_some (global_done (entry_by d (What.GlobalDone op ok) ∷ past) n)) op.0 (operations past) now.number
     (λ c ne. by_test c (compared op.0 c) ne) in
     let was : one_if (is_some (global_done past op.0)) ≡ 0 = ap one_if now.before in
     let is : one_if (is_some (global_done (entry_by d (What.GlobalDone op ok) ∷ past) op.0)) ≡ 1 = ap (λ o. one_if (is_some o)) (if-own op.0 (Some ok) (global_done past op.0)) in
@@ -193,27 +194,27 @@ global-pays k l past d (What.GlobalDone op ok) all m older =
     by_test c (Same t e) ne = absurd (ne (sym e))
     by_test c (Other f e) ne = rw f refl
 global-pays k l past d (What.Begin op job notes) all m older =
-    let more = tally-more (λ n. is_some (global_done past n)) (operations past) in omega (arith, older, more)
+    let more = count-more (λ n. is_some (global_done past n)) (operations past) in omega (arith, older, more)
 global-pays k l past d w all m older =
-    let same : total globals_done past ≤ tally (λ n. is_some (global_done (entry_by d w ∷ past) n)) (below (operations (entry_by d w ∷ past))) = older in
+    let same : total globals_done past ≤ count_by (λ n. is_some (global_done (entry_by d w ∷ past) n)) (below (operations (entry_by d w ∷ past))) = older in
     omega (arith, same)
 
-globals-tally : (k : Declarations) (l : Limits) (past : Past) → AllAllowed k l past → total globals_done past ≤ tally (λ n. is_some (global_done past n)) (below (operations past))
-globals-tally k l [] all = omega arith
-globals-tally k l (e ∷ past) all = global-pays k l past e.core.0 e.what all.1 (allowed-moment k l past e all.1 all.0) (globals-tally k l past all.1)
+globals-counted : (k : Declarations) (l : Limits) (past : Past) → AllAllowed k l past → total globals_done past ≤ count_by (λ n. is_some (global_done past n)) (below (operations past))
+globals-counted k l [] all = omega arith
+globals-counted k l (e ∷ past) all = global-pays k l past e.core.0 e.what all.1 (allowed-moment k l past e all.1 all.0) (globals-counted k l past all.1)
 
 pub globals-paid : (k : Declarations) (l : Limits) (past : Past) → AllAllowed k l past → total globals_done past ≤ total operations_begun past
 globals-paid k l past all =
-    let few = globals-tally k l past all in
-    let most = tally-le (λ n. is_some (global_done past n)) (operations past) in
+    let few = globals-counted k l past all in
+    let most = count-le (λ n. is_some (global_done past n)) (operations past) in
     let is = begun-total past in omega (arith, few, most, is)
 
 done-pays : (k : Declarations) (l : Limits) (past : Past) (d : ℕ) (w : What) → AllAllowed k l past → Moment k l past d w
-    → total operations_done past ≤ tally (λ n. is_some (done past n)) (below (operations past))
-    → operations_done w + total operations_done past ≤ tally (λ n. is_some (done (entry_by d w ∷ past) n)) (below (operations (entry_by d w ∷ past)))
+    → total operations_done past ≤ count_by (λ n. is_some (done past n)) (below (operations past))
+    → operations_done w + total operations_done past ≤ count_by (λ n. is_some (done (entry_by d w ∷ past) n)) (below (operations (entry_by d w ∷ past)))
 done-pays k l past d (What.Done op ok) all m older =
     let now = done-here k l past d op ok all m in
-    let step = tally-one (λ n. is_some (done past n)) (λ n. is_some (done (entry_by d (What.Done op ok) ∷ past) n)) op.0 (operations past) now.number
+    let step = count-one (λ n. is_some (done past n)) (λ n. is_some (done (entry_by d (What.Done op ok) ∷ past) n)) op.0 (operations past) now.number
     (λ c ne. by_test c (compared op.0 c) ne) in
     let was : one_if (is_some (done past op.0)) ≡ 0 = ap one_if now.before in
     let is : one_if (is_some (done (entry_by d (What.Done op ok) ∷ past) op.0)) ≡ 1 = ap (λ o. one_if (is_some o)) (if-own op.0 (Some ok) (done past op.0)) in
@@ -223,19 +224,19 @@ done-pays k l past d (What.Done op ok) all m older =
     by_test c (Same t e) ne = absurd (ne (sym e))
     by_test c (Other f e) ne = rw f refl
 done-pays k l past d (What.Begin op job notes) all m older =
-    let more = tally-more (λ n. is_some (done past n)) (operations past) in omega (arith, older, more)
+    let more = count-more (λ n. is_some (done past n)) (operations past) in omega (arith, older, more)
 done-pays k l past d w all m older =
-    let same : total operations_done past ≤ tally (λ n. is_some (done (entry_by d w ∷ past) n)) (below (operations (entry_by d w ∷ past))) = older in
+    let same : total operations_done past ≤ count_by (λ n. is_some (done (entry_by d w ∷ past) n)) (below (operations (entry_by d w ∷ past))) = older in
     omega (arith, same)
 
-dones-tally : (k : Declarations) (l : Limits) (past : Past) → AllAllowed k l past → total operations_done past ≤ tally (λ n. is_some (done past n)) (below (operations past))
-dones-tally k l [] all = omega arith
-dones-tally k l (e ∷ past) all = done-pays k l past e.core.0 e.what all.1 (allowed-moment k l past e all.1 all.0) (dones-tally k l past all.1)
+dones-counted : (k : Declarations) (l : Limits) (past : Past) → AllAllowed k l past → total operations_done past ≤ count_by (λ n. is_some (done past n)) (below (operations past))
+dones-counted k l [] all = omega arith
+dones-counted k l (e ∷ past) all = done-pays k l past e.core.0 e.what all.1 (allowed-moment k l past e all.1 all.0) (dones-counted k l past all.1)
 
 pub dones-paid : (k : Declarations) (l : Limits) (past : Past) → AllAllowed k l past → total operations_done past ≤ total operations_begun past
 dones-paid k l past all =
-    let few = dones-tally k l past all in
-    let most = tally-le (λ n. is_some (done past n)) (operations past) in
+    let few = dones-counted k l past all in
+    let most = count-le (λ n. is_some (done past n)) (operations past) in
     let is = begun-total past in omega (arith, few, most, is)
 
 -- event groups
@@ -285,9 +286,9 @@ busy-declared k l (e ∷ past) all g now =
     busy-next k l past e.core.0 e.what g (allowed-moment k l past e all.1 all.0) (busy-declared k l past all.1 g) now
 
 notify-pays : (k : Declarations) (l : Limits) (past : Past) (d : ℕ) (w : What) → AllAllowed k l past → Moment k l past d w
-    → notifications w + tally (busy (entry_by d w ∷ past)) (below k.egroups) ≤ applies w + tally (busy past) (below k.egroups)
+    → notifications w + count_by (busy (entry_by d w ∷ past)) (below k.egroups) ≤ applies w + count_by (busy past) (below k.egroups)
 notify-pays k l past d (What.Apply h a n notes) all m =
-    let step = tally-one (busy past) (busy (entry_by d (What.Apply h a n notes) ∷ past)) h.0 k.egroups (apply-declared k past d h.0 a n notes m) (λ c ne. by_test c (compared h.0 c) ne) in
+    let step = count-one (busy past) (busy (entry_by d (What.Apply h a n notes) ∷ past)) h.0 k.egroups (apply-declared k past d h.0 a n notes m) (λ c ne. by_test c (compared h.0 c) ne) in
     let was : one_if (busy past h.0) ≡ 0 = ap one_if (apply-idle past h.0 n m.count) in
     let one = one_if-le (busy (entry_by d (What.Apply h a n notes) ∷ past) h.0) in
     omega (arith, step, was, one)
@@ -297,7 +298,7 @@ notify-pays k l past d (What.Apply h a n notes) all m =
     by_test c (Other f e) ne = rw f refl
 notify-pays k l past d (What.Notify h a) all m =
     let on = (and-true (busy past h.0) (applications past h.0 == a) m.current).0 in
-    let step = tally-one (busy past) (busy (entry_by d (What.Notify h a) ∷ past)) h.0 k.egroups (busy-declared k l past all h.0 on) (λ c ne. by_test c (compared h.0 c) ne) in
+    let step = count-one (busy past) (busy (entry_by d (What.Notify h a) ∷ past)) h.0 k.egroups (busy-declared k l past all h.0 on) (λ c ne. by_test c (compared h.0 c) ne) in
     let was : one_if (busy past h.0) ≡ 1 = ap one_if on in
     let is : one_if (busy (entry_by d (What.Notify h a) ∷ past) h.0) ≡ 0 = ap one_if (if-own h.0 false (busy past h.0)) in
     omega (arith, step, was, is)
@@ -306,7 +307,7 @@ notify-pays k l past d (What.Notify h a) all m =
     by_test c (Same t e) ne = absurd (ne (sym e))
     by_test c (Other f e) ne = rw f refl
 notify-pays k l past d (What.Abort h) all m =
-    let step = tally-one (busy past) (busy (entry_by d (What.Abort h) ∷ past)) h.0 k.egroups (busy-declared k l past all h.0 m.busy) (λ c ne. by_test c (compared h.0 c) ne) in
+    let step = count-one (busy past) (busy (entry_by d (What.Abort h) ∷ past)) h.0 k.egroups (busy-declared k l past all h.0 m.busy) (λ c ne. by_test c (compared h.0 c) ne) in
     let is : one_if (busy (entry_by d (What.Abort h) ∷ past) h.0) ≡ 0 = ap one_if (if-own h.0 false (busy past h.0)) in
     omega (arith, step, is)
   where
@@ -315,8 +316,8 @@ notify-pays k l past d (What.Abort h) all m =
     by_test c (Other f e) ne = rw f refl
 notify-pays k l past d w all m = omega arith
 
-pub notifications-paid : (k : Declarations) (l : Limits) (past : Past) → AllAllowed k l past → total notifications past + tally (busy past) (below k.egroups) ≤ total applies past
-notifications-paid k l [] all = let none = tally-none k.egroups in omega (arith, none)
+pub notifications-paid : (k : Declarations) (l : Limits) (past : Past) → AllAllowed k l past → total notifications past + count_by (busy past) (below k.egroups) ≤ total applies past
+notifications-paid k l [] all = let none = count-none (busy []) k.egroups (λ c. refl) in omega (arith, none)
 notifications-paid k l (e ∷ past) all =
     let older = notifications-paid k l past all.1 in
     let here = notify-pays k l past e.core.0 e.what all.1 (allowed-moment k l past e all.1 all.0) in

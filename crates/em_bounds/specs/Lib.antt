@@ -1,2 +1,4 @@
 pub mod Paid
+pub mod Room
+pub mod Bound
 pub mod Pending

@@ -13,7 +13,7 @@ use Rattle.em_log.specs.Places.{waiting}
 use Rattle.em_log.specs.Lawful.{AllAllowed}
 use Rattle.em_moments.proofs.Moments.{Moment, EnterMoment, EntersBoot, EntersStep, allowed-moment}
 use Rattle.std.proofs.lemmas.Bool.Decides.{eqb_tells}
-use Rattle.em_pool.specs.Steps.{Step, held}
+use Rattle.em_pool.specs.Steps.{PoolStep, held}
 use Rattle.em_pool.specs.Handles as pool
 use Rattle.em_desk.specs.Plain.{IsPlain, ArePlain}
 use Rattle.em_desk.specs.Parts.{pool_steps, pool_after, taken_steps, minted_steps}
@@ -21,11 +21,11 @@ use Rattle.em_desk.proofs.Plain.{by_plain}
 
 -- minted
 
-taken-generation : (c i : ℕ) (xs : List Item) (steps : List Step) → pool.generation (taken_steps c xs steps) i ≡ pool.generation steps i
+taken-generation : (c i : ℕ) (xs : List Item) (steps : List PoolStep) → pool.generation (taken_steps c xs steps) i ≡ pool.generation steps i
 taken-generation c i [] steps = refl
 taken-generation c i (x ∷ xs) steps = taken-generation c i xs _
 
-claim-generation : (c i : ℕ) (e : Option Event) (steps : List Step)
+claim-generation : (c i : ℕ) (e : Option Event) (steps : List PoolStep)
     → pool.generation (minted_steps c e steps) i ≡ log.one_more i e (pool.generation steps i)
 claim-generation c i None steps = refl
 claim-generation c i (Some e) steps = refl
@@ -40,11 +40,11 @@ same-generation k (e ∷ past) i p =
     (λ o. claim-generation c i o steps) (λ _. refl) (λ _ _ _. refl) e.what p.0
     ∙ ap (log.one_more i (minted_in e.what)) (same-generation k past i p.1)
 
-taken-minting : (c h : ℕ) (xs : List Item) (steps : List Step) → pool.minting (taken_steps c xs steps) h ≡ pool.minting steps h
+taken-minting : (c h : ℕ) (xs : List Item) (steps : List PoolStep) → pool.minting (taken_steps c xs steps) h ≡ pool.minting steps h
 taken-minting c h [] steps = refl
 taken-minting c h (x ∷ xs) steps = taken-minting c h xs _
 
-claim-minting : (c h : ℕ) (e : Option Event) (steps : List Step)
+claim-minting : (c h : ℕ) (e : Option Event) (steps : List PoolStep)
     → pool.minting (minted_steps c e steps) h ≡ log.minting_by h c e (pool.minting steps h)
 claim-minting c h None steps = refl
 claim-minting c h (Some e) steps = refl
@@ -59,11 +59,11 @@ same-minting k (e ∷ past) h p =
     (λ o. claim-minting c h o steps) (λ _. refl) (λ _ _ _. refl) e.what p.0
     ∙ ap (log.minting_by h c (minted_in e.what)) (same-minting k past h p.1)
 
-taken-last : (c i : ℕ) (xs : List Item) (steps : List Step) → pool.last_handle (taken_steps c xs steps) i ≡ pool.last_handle steps i
+taken-last : (c i : ℕ) (xs : List Item) (steps : List PoolStep) → pool.last_handle (taken_steps c xs steps) i ≡ pool.last_handle steps i
 taken-last c i [] steps = refl
 taken-last c i (x ∷ xs) steps = taken-last c i xs _
 
-claim-last : (c i : ℕ) (e : Option Event) (steps : List Step)
+claim-last : (c i : ℕ) (e : Option Event) (steps : List PoolStep)
     → pool.last_handle (minted_steps c e steps) i ≡ log.last_handle_by i e (pool.last_handle steps i)
 claim-last c i None steps = refl
 claim-last c i (Some e) steps = refl
@@ -110,7 +110,7 @@ HeldAlike k past c d w =
     held (pool_after k past d w (pool_steps k past)) c
     ≡ (if d == c then log.held_after w (context past c) (without_all (names w) (log.held past c)) else without_all (names w) (log.held past c))
 
-taken-held : (c d : ℕ) (xs : List Item) (steps : List Step) → held (taken_steps d xs steps) c ≡ held steps c
+taken-held : (c d : ℕ) (xs : List Item) (steps : List PoolStep) → held (taken_steps d xs steps) c ≡ held steps c
 taken-held c d [] steps = refl
 taken-held c d (x ∷ xs) steps = taken-held c d xs _
 
@@ -140,7 +140,7 @@ open-at : (k : Declarations) (past : Past) (d c : ℕ) (b w : What) → context 
     → (w : What) × (context past c ≡ Some w)
 open-at k past d c b w is test = at-core (λ n. (w : What) × (context past n ≡ Some w)) d c test (b, is)
 
-claim-held : (k : Declarations) (past : Past) (c d : ℕ) (o : Option Event) (steps : List Step) (b : What) → context past d ≡ Some b
+claim-held : (k : Declarations) (past : Past) (c d : ℕ) (o : Option Event) (steps : List PoolStep) (b : What) → context past d ≡ Some b
     → held steps c ≡ log.held past c
     → held (minted_steps d o steps) c ≡ (if d == c then log.with_minted (context past c) o (log.held past c) else log.held past c)
 claim-held k past c d None steps b begun same = same ∙ none (d == c) (context past c)

@@ -10,7 +10,7 @@ use Rattle.em_log.specs.Lawful.{Asks, may_ask}
 use Rattle.em_log.specs.Allowance.{left}
 use Rattle.em_pool.specs.declared.place.Place.{Place}
 use Rattle.em_pool.specs.declared.place.Spend.{Spend}
-use Rattle.em_pool.specs.Steps.{Step, Spent}
+use Rattle.em_pool.specs.Steps.{PoolStep, Spent}
 use Rattle.em_pool.specs.Places.{place, can_shift}
 use Rattle.em_pool.specs.State.{PoolState}
 use Rattle.em_pool.specs.Stands as pools
@@ -30,7 +30,7 @@ pub spent-stays : (k : Declarations) (past : Past) (c h : ℕ) (w : What) (how :
     → IsParked k past at j i → IsParked k (entry_by c w ∷ past) at j i
 spent-stays k past c h w how at j i none steps settled p =
     parked-unminted k past c w at j i none
-    (ap (λ (ss : List Step). place ss i) steps ∙ place-spent (pool_steps k past) i c h (length past) how (ap can_shift p.place ∙ settled)) p
+    (ap (λ (ss : List PoolStep). place ss i) steps ∙ place-spent (pool_steps k past) i c h (length past) how (ap can_shift p.place ∙ settled)) p
 
 mild-free : (h : ℕ) → IsMild (What.Free (record { 0 = h }))
 mild-free h =

@@ -12,7 +12,7 @@ use Rattle.em_log.specs.Handles as log
 use Rattle.em_log.specs.Arrivals.{Item}
 use Rattle.em_log.specs.Places.{waiting}
 use Rattle.em_pool.specs.declared.place.Place.{Place}
-use Rattle.em_pool.specs.Steps.{Step, Minted, mintings}
+use Rattle.em_pool.specs.Steps.{PoolStep, Minted, mintings}
 use Rattle.em_pool.specs.Handles as pool
 use Rattle.em_pool.specs.Places.{shift, place, events_of}
 use Rattle.em_desk.specs.Plain.{ArePlain}
@@ -25,11 +25,11 @@ use Rattle.em_desk.proofs.Room.{own-test}
 
 -- how many handles were minted
 
-taken-mintings : (c : ℕ) (xs : List Item) (steps : List Step) → mintings (taken_steps c xs steps) ≡ mintings steps
+taken-mintings : (c : ℕ) (xs : List Item) (steps : List PoolStep) → mintings (taken_steps c xs steps) ≡ mintings steps
 taken-mintings c [] steps = refl
 taken-mintings c (x ∷ xs) steps = taken-mintings c xs _
 
-claim-mintings : (c : ℕ) (o : Option Event) (steps : List Step) → mintings (minted_steps c o steps) ≤ suc (mintings steps)
+claim-mintings : (c : ℕ) (o : Option Event) (steps : List PoolStep) → mintings (minted_steps c o steps) ≤ suc (mintings steps)
 claim-mintings c None steps = omega arith
 claim-mintings c (Some e) steps = omega arith
 
@@ -53,13 +53,13 @@ pub minted-stays : (k : Declarations) (past : Past) (c : ℕ) (w : What) (e : Ev
     → IsParked k past at h i → IsParked k (entry_by c w ∷ past) at h i
 minted-stays k past c w e at h i is steps other p =
     parked-minted k past c w e at h i is other
-    (ap (λ (ss : List Step). place ss i) steps ∙ place-minted (pool_steps k past) i c e other) p
+    (ap (λ (ss : List PoolStep). place ss i) steps ∙ place-minted (pool_steps k past) i c e other) p
 
 -- an event in another place is another
 pub place-apart : (k : Declarations) (past : Past) (at : Place) (h i j : ℕ) → IsParked k past at h i → place (pool_steps k past) j ≢ at → j ≢ i
 place-apart k past at h i j p other = λ (e : j ≡ i). other (ap (place (pool_steps k past)) e ∙ p.place)
 
-pub unshifted-minted : (steps : List Step) (c i : ℕ) (e : Event) → shift steps i ≡ None → shift (Minted c e ∷ steps) i ≡ None
+pub unshifted-minted : (steps : List PoolStep) (c i : ℕ) (e : Event) → shift steps i ≡ None → shift (Minted c e ∷ steps) i ≡ None
 unshifted-minted steps c i e none = by_test (index_of e.handle.0 == i)
   where
     by_test : (b : Bool) → (if b then None else shift steps i) ≡ None

@@ -11,7 +11,7 @@ use Rattle.em_log.specs.Declarations.{event_total}
 use Rattle.em_log.specs.Handles as log
 use Rattle.em_log.specs.Lawful.{AllAllowed}
 use Rattle.em_pool.specs.declared.place.Place.{Place}
-use Rattle.em_pool.specs.Steps.{Step, Minted, Spent, Shifted, Lost, held}
+use Rattle.em_pool.specs.Steps.{PoolStep, Minted, Spent, Shifted, Lost, held}
 use Rattle.em_pool.specs.Handles as pool
 use Rattle.em_pool.specs.Places.{shift, place, place_by, place_of}
 use Rattle.em_pool.specs.State.{PoolState, generation_at, last_handle_in, generation_of, holds}
@@ -68,7 +68,7 @@ if-none true x h = absurd cc
 if-none false x h = refl
 
 -- a handle that is minted and not spent is held by the core that minted it
-pub unspent-held : (steps : List Step) (c w : ℕ) (m : log.Minting) → pool.minting steps w ≡ Some m → m.core ≡ c → pool.spending steps w ≡ None
+pub unspent-held : (steps : List PoolStep) (c w : ℕ) (m : log.Minting) → pool.minting steps w ≡ Some m → m.core ≡ c → pool.spending steps w ≡ None
     → has (held steps c) w ≡ true
 unspent-held [] c w m is core unspent = absurd cc
 unspent-held (Minted d e ∷ steps) c w m is core unspent =
@@ -138,7 +138,7 @@ equal-of a b test = by_test (eqb_tells a b)
 pub whole-handle : (w : ℕ) → handle_of (w / 65536) (index_of w) ≡ w
 whole-handle w = omega arith
 
-last-of : (steps : List Step) (v : PoolState) (c w : ℕ) → pools.Stands v steps → is_some (pool.minting steps w) ≡ true → has (held steps c) w ≡ true
+last-of : (steps : List PoolStep) (v : PoolState) (c w : ℕ) → pools.Stands v steps → is_some (pool.minting steps w) ≡ true → has (held steps c) w ≡ true
     → pool.last_handle steps (index_of w) ≡ Some w
 last-of steps v c w s minted is =
     let counted = counted-true (holds v c w) (count_by (λ m. m == w) (held steps c)) (s.held_once c w) (some-counted w (held steps c) is) in
@@ -161,13 +161,13 @@ pub record IsOwned (k : Declarations) (past : Past) (c w : ℕ) : Type 0 where
   pub held : place (pool_steps k past) (index_of w) ≡ Place.Held (record { 0 = c })
 
 -- the parts of the rule
-pub record IsAllowed (steps : List Step) (c w : ℕ) : Type 0 where
+pub record IsAllowed (steps : List PoolStep) (c w : ℕ) : Type 0 where
   pub minting : log.Minting
   pub is : pool.minting steps w ≡ Some minting
   pub core : minting.core ≡ c
   pub unspent : pool.spending steps w ≡ None
 
-pub allowed-by : (steps : List Step) (c w : ℕ) → pool.rule steps c w ≡ None → IsAllowed steps c w
+pub allowed-by : (steps : List PoolStep) (c w : ℕ) → pool.rule steps c w ≡ None → IsAllowed steps c w
 allowed-by steps c w ok = by_minting (pool.minting steps w) refl (pool.spending steps w) refl ok
   where
     by_core : (m : log.Minting) (b : Bool) → (m.core == c) ≡ b → log.unspent_fault c m ≡ None → m.core ≡ c

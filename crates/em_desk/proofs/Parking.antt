@@ -9,7 +9,7 @@ use Rattle.em_log.specs.History.{Past, entry_by, index_of, minted_in}
 use Rattle.em_log.specs.Handles as log
 use Rattle.em_log.specs.Arrivals.{Item, item_of}
 use Rattle.em_pool.specs.declared.place.Place.{Place}
-use Rattle.em_pool.specs.Steps.{Step, Minted, Spent, Lost, minter, minted_in as minted_in_step}
+use Rattle.em_pool.specs.Steps.{PoolStep, Minted, Spent, Lost, minter, minted_in as minted_in_step}
 use Rattle.em_pool.specs.Handles as pool
 use Rattle.em_pool.specs.Places.{shift, place, place_by, place_of, can_shift}
 use Rattle.em_desk.specs.Parts.{pool_steps}
@@ -29,7 +29,7 @@ last-index-by i h (Some e) was before is = by_test (eqb_tells (index_of e.handle
     by_test (inr t) is = before (rw t.0 at is)
 
 -- a last handle is one of its index
-pub last-index : (steps : List Step) (i h : ℕ) → pool.last_handle steps i ≡ Some h → index_of h ≡ i
+pub last-index : (steps : List PoolStep) (i h : ℕ) → pool.last_handle steps i ≡ Some h → index_of h ≡ i
 last-index [] i h is = absurd cc
 last-index (s ∷ steps) i h is = last-index-by i h (minted_in_step s) (pool.last_handle steps i) (last-index steps i h) is
 
@@ -49,7 +49,7 @@ spent-place (Some m) None t to settled = absurd cc
 spent-place (Some m) (Some s) t to settled = refl
 
 -- a step that spends or loses leaves each event that no core holds
-pub place-spent : (steps : List Step) (i c w p : ℕ) (how : _) → can_shift (place steps i) ≡ true
+pub place-spent : (steps : List PoolStep) (i c w p : ℕ) (how : _) → can_shift (place steps i) ≡ true
     → place (Spent c w how p ∷ steps) i ≡ place steps i
 place-spent steps i c w p how settled = by_last (pool.last_handle steps i) settled
   where
@@ -57,7 +57,7 @@ place-spent steps i c w p how settled = by_last (pool.last_handle steps i) settl
     by_last None settled = refl
     by_last (Some h) settled = spent-place (pool.minting steps h) (pool.spending steps h) _ (shift steps i) settled
 
-pub place-lost : (steps : List Step) (i c p : ℕ) → can_shift (place steps i) ≡ true → place (Lost c p ∷ steps) i ≡ place steps i
+pub place-lost : (steps : List PoolStep) (i c p : ℕ) → can_shift (place steps i) ≡ true → place (Lost c p ∷ steps) i ≡ place steps i
 place-lost steps i c p settled = by_last (pool.last_handle steps i) settled
   where
     by_last : (o : Option ℕ) → can_shift (place_by steps i o) ≡ true → place_by (Lost c p ∷ steps) i o ≡ place_by steps i o
@@ -65,7 +65,7 @@ place-lost steps i c p settled = by_last (pool.last_handle steps i) settled
     by_last (Some h) settled = spent-place (pool.minting steps h) (pool.spending steps h) _ (shift steps i) settled
 
 -- a minting of another index leaves each event
-pub place-minted : (steps : List Step) (i c : ℕ) (e : Event) → index_of e.handle.0 ≢ i → place (Minted c e ∷ steps) i ≡ place steps i
+pub place-minted : (steps : List PoolStep) (i c : ℕ) (e : Event) → index_of e.handle.0 ≢ i → place (Minted c e ∷ steps) i ≡ place steps i
 place-minted steps i c e other = let t = other-test (index_of e.handle.0) i other in rw t (by_last (pool.last_handle steps i) refl)
   where
     by_last : (o : Option ℕ) → pool.last_handle steps i ≡ o

@@ -9,7 +9,7 @@ use Rattle.em_log.specs.Handles as log
 use Rattle.em_log.specs.Arrivals.{Item, arrivals}
 use Rattle.em_log.specs.Places.{gone, waiting}
 use Rattle.em_pool.specs.declared.place.Spend.{Spend}
-use Rattle.em_pool.specs.Steps.{Step, Spent}
+use Rattle.em_pool.specs.Steps.{PoolStep, Spent}
 use Rattle.em_pool.specs.Handles as pool
 use Rattle.em_pool.specs.Places.{shift, place, place_of}
 use Rattle.em_desk.specs.Simple.{IsSimple}
@@ -24,7 +24,7 @@ place-after None t h = absurd cc
 place-after (Some m) t h = refl
 
 -- a step that spends a handle brings its event to where it says
-pub place-spending : (steps : List Step) (c w p : ℕ) (how : Spend) → pool.last_handle steps (index_of w) ≡ Some w → is_some (pool.minting steps w) ≡ true
+pub place-spending : (steps : List PoolStep) (c w p : ℕ) (how : Spend) → pool.last_handle steps (index_of w) ≡ Some w → is_some (pool.minting steps w) ≡ true
     → pool.spending steps w ≡ None → shift steps (index_of w) ≡ None
     → place (Spent c w how p ∷ steps) (index_of w) ≡ pool.place_of_spend how
 place-spending steps c w p how last minted unspent unshifted =
@@ -44,7 +44,7 @@ owned-parked k past c w what how o unshifted steps last minting =
       below = o.below;
       last = last ∙ o.last;
       minting = (o.minting.0, minting ∙ o.minting.1);
-      place = ap (λ (ss : List Step). place ss (index_of w)) steps
+      place = ap (λ (ss : List PoolStep). place ss (index_of w)) steps
           ∙ place-spending (pool_steps k past) c w (length past) how o.known o.minted o.unspent unshifted;
     }
 

@@ -10,7 +10,7 @@ use Rattle.em_log.specs.declared.fault.Fault.{Fault}
 use Rattle.em_log.specs.Handles as log
 use Rattle.em_log.specs.Leads.{refusal, call_of, scope, lead}
 use Rattle.em_log.specs.Lawful.{may_ask}
-use Rattle.em_pool.specs.Steps.{Step}
+use Rattle.em_pool.specs.Steps.{PoolStep}
 use Rattle.em_pool.specs.Handles as pool
 use Rattle.em_desk.specs.declared.desk.Desk.TheInside.{Inside}
 use Rattle.em_desk.specs.Parts.{pool_steps}
@@ -21,7 +21,7 @@ use Rattle.em_desk.proofs.Silent.{fault-lead}
 use Rattle.em_desk.proofs.Spendings.{same-rule}
 
 -- the steps of the pools for the history of the fields
-abbrev pub steps_of : Inside → List Step
+abbrev pub steps_of : Inside → List PoolStep
 steps_of d = pool_steps d.declarations (reverse d.log.items)
 
 pub refused-by : (d : Inside) (t : DeskState) (n : ℕ) (a : Ask) (asked : Call) (f : Fault) → state_of d ≡ t

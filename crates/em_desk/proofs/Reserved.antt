@@ -17,7 +17,7 @@ use Rattle.em_log.specs.Operations.{step}
 use Rattle.em_log.specs.Leads.{event_with, item_again}
 use Rattle.em_log.specs.Answers.{Takes, is_first, object_id}
 use Rattle.em_pool.specs.declared.place.Place.{Place}
-use Rattle.em_pool.specs.Steps.{Step, Minted, Shifted}
+use Rattle.em_pool.specs.Steps.{PoolStep, Minted, Shifted}
 use Rattle.em_pool.specs.Handles as pool
 use Rattle.em_pool.specs.State.{PoolState}
 use Rattle.em_pool.specs.Stands as pools
@@ -47,11 +47,11 @@ pub record IsReserved (d : Inside) (log : Vec Entry Global) (p : PoolState) : Ty
   pub mintings : p.mintings ≡ d.pools.mintings
   pub more : d.pools.spare ≤ p.spare
   pub enough : 2331 ≤ p.spare
-  pub stands : (s : List Step) → pools.Stands d.pools s → pools.Stands p s
+  pub stands : (s : List PoolStep) → pools.Stands d.pools s → pools.Stands p s
 
 pub is-reserved : (d : Inside) (log : Vec Entry Global) (p : PoolState) → log.items ≡ d.log.items → vec_len log + 2331 ≤ vec_capacity log
     → p ≡ record d.pools { spare = p.spare } → d.pools.spare ≤ p.spare → 2331 ≤ p.spare
-    → ((s : List Step) → pools.Stands d.pools s → pools.Stands p s) → IsReserved d log p
+    → ((s : List PoolStep) → pools.Stands d.pools s → pools.Stands p s) → IsReserved d log p
 is-reserved d log p items room value more enough stands =
     record {
       items = items;
@@ -185,7 +185,7 @@ first-now d log p c q s r declared x =
 -- the event that a start gives, as its contract tells it
 abbrev pub Gives : PoolState → LinesState → ℕ → Event → Type 0
 Gives p queues q result =
-    (s : List Step) (i : ℕ) (is : List ℕ) (e : Event) → pools.Stands p s → list_at queues q ≡ i ∷ is → pool.last_event s i ≡ Some e
+    (s : List PoolStep) (i : ℕ) (is : List ℕ) (e : Event) → pools.Stands p s → list_at queues q ≡ i ∷ is → pool.last_event s i ≡ Some e
     → result ≡ event_with (pool.next_handle s i) e.kind e.words
 
 pub given-now : (d : Inside) (log : Vec Entry Global) (p : PoolState) (c q : ℕ) (e : Event) → Stands d → IsReserved d log p

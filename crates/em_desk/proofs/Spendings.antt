@@ -13,7 +13,7 @@ use Rattle.em_log.specs.Arrivals.{Item}
 use Rattle.em_log.specs.Places as logged
 use Rattle.em_log.specs.Lawful.{AllAllowed}
 use Rattle.em_pool.specs.declared.place.Spend.{Spend}
-use Rattle.em_pool.specs.Steps.{Step, held}
+use Rattle.em_pool.specs.Steps.{PoolStep, held}
 use Rattle.em_pool.specs.Handles as pool
 use Rattle.em_pool.specs.Places as places
 use Rattle.em_desk.specs.Simple.{IsSimple}
@@ -46,11 +46,11 @@ or-none : {A : Type 0} (o : Option A) → option_or o None ≡ o
 or-none None = refl
 or-none (Some x) = refl
 
-taken-spending : (c h : ℕ) (xs : List Item) (steps : List Step) → pool.spending (taken_steps c xs steps) h ≡ pool.spending steps h
+taken-spending : (c h : ℕ) (xs : List Item) (steps : List PoolStep) → pool.spending (taken_steps c xs steps) h ≡ pool.spending steps h
 taken-spending c h [] steps = refl
 taken-spending c h (x ∷ xs) steps = taken-spending c h xs _ ∙ or-none (pool.spending steps h)
 
-claim-spending : (c h : ℕ) (e : Option Event) (steps : List Step) → pool.spending (minted_steps c e steps) h ≡ pool.spending steps h
+claim-spending : (c h : ℕ) (e : Option Event) (steps : List PoolStep) → pool.spending (minted_steps c e steps) h ≡ pool.spending steps h
 claim-spending c h None steps = refl
 claim-spending c h (Some e) steps = or-none (pool.spending steps h)
 

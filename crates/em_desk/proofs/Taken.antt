@@ -18,7 +18,7 @@ use Rattle.em_log.specs.Lawful.{Lawful, Boots, Takes}
 use Rattle.em_log.specs.Answers.{object_id}
 use Rattle.em_moments.proofs.Blocks.{block-lawful}
 use Rattle.em_pool.specs.declared.place.Place.{Place}
-use Rattle.em_pool.specs.Steps.{Step, Minted, Shifted}
+use Rattle.em_pool.specs.Steps.{PoolStep, Minted, Shifted}
 use Rattle.em_pool.specs.State.{PoolState}
 use Rattle.em_pool.specs.Stands as pools
 use Rattle.em_desk.specs.declared.opening.Opening.{Opening}
@@ -40,7 +40,7 @@ use Rattle.em_desk.proofs.Taking.{took, after_take, block-next, take-is, begun-n
 
 pub reserved-keeps : (k : Declarations) (l : Limits) (past : Past) (p p' : PoolState) (opens : List Opening) (queues objects : LinesState) (n : ℕ)
     → Keeps k l past p opens queues objects n → p'.pools ≡ p.pools → p.spare ≤ p'.spare
-    → ((s : List Step) → pools.Stands p s → pools.Stands p' s) → Keeps k l past p' opens queues objects n
+    → ((s : List PoolStep) → pools.Stands p s → pools.Stands p' s) → Keeps k l past p' opens queues objects n
 reserved-keeps k l past p p' opens queues objects n s same more stands =
     record {
       simple = s.simple;

@@ -25,7 +25,7 @@ use Rattle.em_log.specs.Leads.{event_with, item_again}
 use Rattle.em_log.specs.Tails.{tail, first_start}
 use Rattle.em_log.specs.Answers.{block, context_told, context_from, taken_as, object_id, cells_as}
 use Rattle.em_pool.specs.declared.place.Place.{Place}
-use Rattle.em_pool.specs.Steps.{Step, Minted, Shifted}
+use Rattle.em_pool.specs.Steps.{PoolStep, Minted, Shifted}
 use Rattle.em_pool.specs.Handles as pool
 use Rattle.em_pool.specs.Places.{shift, place, place_by}
 use Rattle.em_pool.specs.State.{PoolState}
@@ -189,7 +189,7 @@ or-none : {A : Type 0} (o : Option A) → option_or o None ≡ o
 or-none None = refl
 or-none (Some x) = refl
 
-place-shifted : (steps : List Step) (i j : ℕ) (to : Place) → i ≢ j → place (Shifted i to ∷ steps) j ≡ place steps j
+place-shifted : (steps : List PoolStep) (i j : ℕ) (to : Place) → i ≢ j → place (Shifted i to ∷ steps) j ≡ place steps j
 place-shifted steps i j to other = by_last (pool.last_handle steps j)
   where
     by_last : (o : Option ℕ) → place_by (Shifted i to ∷ steps) j o ≡ place_by steps j o

@@ -12,22 +12,22 @@ use Rattle.em_log.specs.Places.{waiting}
 use Rattle.em_log.specs.Answers.{object_id}
 use Rattle.em_pool.specs.declared.place.Place.{Place}
 use Rattle.em_pool.specs.declared.place.Spend.{Spend}
-use Rattle.em_pool.specs.Steps.{Step, Minted, Spent, Shifted, Lost}
+use Rattle.em_pool.specs.Steps.{PoolStep, Minted, Spent, Shifted, Lost}
 
 -- a send enters its queue, or is held back by order
 abbrev pub sending : Past → ℕ → Option ℕ → QueueId → Spend
 sending past c t q = if enters past (ticket_of_send past c t) then Spend.Sent q else Spend.Delayed q
 
 -- each of these items is taken by core c
-abbrev pub taken_steps : ℕ → List Item → List Step → List Step
+abbrev pub taken_steps : ℕ → List Item → List PoolStep → List PoolStep
 taken_steps c [] steps = steps
 taken_steps c (x ∷ xs) steps = taken_steps c xs (Shifted (index_of x.handle) (Place.Taken (record { 0 = c })) ∷ steps)
 
-abbrev pub minted_steps : ℕ → Option Event → List Step → List Step
+abbrev pub minted_steps : ℕ → Option Event → List PoolStep → List PoolStep
 minted_steps c None steps = steps
 minted_steps c (Some e) steps = Minted c e ∷ steps
 
-abbrev pub pool_after : Declarations → Past → ℕ → What → List Step → List Step
+abbrev pub pool_after : Declarations → Past → ℕ → What → List PoolStep → List PoolStep
 pool_after k past c (What.Alloc p e) steps = Minted c e ∷ steps
 pool_after k past c (What.Start q e s) steps = Minted c e ∷ steps
 pool_after k past c (What.Claim e) steps = minted_steps c e steps
@@ -40,6 +40,6 @@ pool_after k past c (What.End lost cells) steps = Lost c (length past) ∷ steps
 pool_after k past c w steps = steps
 
 -- the steps of the pools, as far as the desk makes such entries
-abbrev pub pool_steps : Declarations → Past → List Step
+abbrev pub pool_steps : Declarations → Past → List PoolStep
 pool_steps k [] = []
 pool_steps k (e ∷ past) = pool_after k past e.core.0 e.what (pool_steps k past)

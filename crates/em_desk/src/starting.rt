@@ -5,7 +5,7 @@ ghost use Rattle.em_log.specs.History.{entry_by};
 ghost use Rattle.em_log.specs.Leads.{event_with};
 ghost use Rattle.em_log.specs.declared.entry.Event.{Event as TheEvent};
 ghost use Rattle.em_pool.specs.declared.place.Place.{Place as ThePlace};
-ghost use Rattle.em_pool.specs.Steps.{Step, Minted, Shifted};
+ghost use Rattle.em_pool.specs.Steps.{PoolStep, Minted, Shifted};
 ghost use Rattle.em_pool.specs.Handles.{next_handle, last_event};
 ghost use Rattle.em_pool.specs.Stands.{Stands};
 ghost use Rattle.em_log.specs.declared.entry.What.{What as TheWhat};
@@ -29,8 +29,8 @@ pub fn start(
     requires spare { 1 ≤ pools.old.spare }
     requires mintings { pools.old.mintings < 4294967295 }
     requires first { IsFirst pools.old waiting.old queue.0 }
-    ensures event { (s : List Step) (i : ℕ) (is : List ℕ) (e : TheEvent) → Stands pools.old s → list_at waiting.old queue.0 ≡ i ∷ is → last_event s i ≡ Some e → result ≡ event_with (next_handle s i) e.kind e.words }
-    ensures stands { (s : List Step) (i : ℕ) (is : List ℕ) → Stands pools.old s → list_at waiting.old queue.0 ≡ i ∷ is → Stands pools.new (Minted core.0 result ∷ Shifted i (ThePlace.Taken core) ∷ s) }
+    ensures event { (s : List PoolStep) (i : ℕ) (is : List ℕ) (e : TheEvent) → Stands pools.old s → list_at waiting.old queue.0 ≡ i ∷ is → last_event s i ≡ Some e → result ≡ event_with (next_handle s i) e.kind e.words }
+    ensures stands { (s : List PoolStep) (i : ℕ) (is : List ℕ) → Stands pools.old s → list_at waiting.old queue.0 ≡ i ∷ is → Stands pools.new (Minted core.0 result ∷ Shifted i (ThePlace.Taken core) ∷ s) }
     ensures shapes { pools.new.pools ≡ pools.old.pools }
     ensures spent { pools.new.spare + 1 ≡ pools.old.spare }
     ensures lists { waiting.new.lists ≡ slice_set waiting.old.lists queue.0 (drop 1 (list_at waiting.old queue.0)) }

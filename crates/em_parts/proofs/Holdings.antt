@@ -12,7 +12,7 @@ use Rattle.em_log.specs.Contexts.{context, context_after}
 use Rattle.em_log.specs.Lawful.{AllAllowed}
 use Rattle.em_moments.proofs.Moments.{Moment, EnterMoment, EntersBoot, EntersStep, allowed-moment}
 use Rattle.em_laws.proofs.Cores.{none-some, compared, Compared, Same, Other}
-use Rattle.em_pool.specs.Steps.{Step, held}
+use Rattle.em_pool.specs.Steps.{PoolStep, held}
 use Rattle.em_parts.specs.PoolSteps.{moves, direct, minted_steps, noted_steps, pool_steps}
 use Rattle.em_parts.proofs.StepLemmas.{moved-held, noted-held}
 
@@ -77,7 +77,7 @@ abbrev HeldNow : Past → ℕ → ℕ → What → List ℕ
 HeldNow past c d w =
     if d == c then log.held_after w (context past c) (without_all (names w) (log.held past c)) else without_all (names w) (log.held past c)
 
-claim-held : (past : Past) (c d : ℕ) (o : Option Event) (steps : List Step) (b : What) → context past d ≡ Some b → held steps c ≡ log.held past c
+claim-held : (past : Past) (c d : ℕ) (o : Option Event) (steps : List PoolStep) (b : What) → context past d ≡ Some b → held steps c ≡ log.held past c
     → held (minted_steps d o steps) c ≡ (if d == c then log.with_minted (context past c) o (log.held past c) else log.held past c)
 claim-held past c d None steps b begun same = same ∙ nothing-minted (d == c) (context past c) (log.held past c)
 claim-held past c d (Some e) steps b begun same =
@@ -89,7 +89,7 @@ enters-held k past c d b (EntersBoot none core is) = entered-empty (d == c) (log
 enters-held k past c d b (EntersStep between owed owes) =
     entered-empty (d == c) (log.held past c) (λ t. at-core (λ n. log.held past n ≡ []) d c t (closed-held past d between.closed))
 
-notes-held : (past : Past) (c d p : ℕ) (ns : List Note) (steps : List Step) → held steps c ≡ log.held past c
+notes-held : (past : Past) (c d p : ℕ) (ns : List Note) (steps : List PoolStep) → held steps c ≡ log.held past c
     → held (noted_steps d p ns steps) c ≡ (if d == c then log.with_minted (context past c) None (without_all (note_words ns) (log.held past c)) else without_all (note_words ns) (log.held past c))
 notes-held past c d p ns steps same =
     noted-held d p ns steps c ∙ (ap (without_all (note_words ns)) same ∙ nothing-minted (d == c) (context past c) _)

@@ -26,8 +26,8 @@ use Rattle.em_laws.proofs.Started.{Holds, tracked-of, tracked, take-served, rece
 use Rattle.em_queues.specs.Steps.{QueueStep, Took, Untook, Dequeued, lists}
 use Rattle.em_parts.specs.QueueSteps.{item_steps, arrived_steps, served_steps, queue_steps}
 use Rattle.em_parts.specs.QueueAlike.{index_in, QueuesAlike}
-use Rattle.em_bounds.proofs.Lists.{drop-more, giving-back, came, with-came}
-use Rattle.em_bounds.proofs.Gone.{gone-fits, gone-within}
+use Rattle.em_arrivals.proofs.Lists.{drop-more, giving-back, came, with-came}
+use Rattle.em_arrivals.proofs.Gone.{gone-fits, gone-within}
 
 item-waits : (k : Declarations) (r d q c : ℕ) (xs : List Item) (steps : List QueueStep)
     → (lists k (item_steps r d xs steps)).waiting q c ≡ (lists k steps).waiting q c ++ (if is_for k q c r d then map index_in xs else [])

@@ -12,7 +12,7 @@ use Rattle.em_log.specs.Order.{enters, ticket_of_send}
 use Rattle.em_log.specs.Lawful.{AllAllowed}
 use Rattle.em_log.specs.Answers.{object_id}
 use Rattle.em_pool.specs.declared.place.Spend.{Spend}
-use Rattle.em_pool.specs.Steps.{Step, held}
+use Rattle.em_pool.specs.Steps.{PoolStep, held}
 use Rattle.em_pool.specs.Handles as pool
 use Rattle.em_parts.specs.PoolSteps.{moves, direct, sending, noted_steps, pool_steps}
 use Rattle.em_parts.proofs.StepLemmas.{moved-spending, minted-spending, or-none}
@@ -57,7 +57,7 @@ or-or : {A : Type 0} (o p r : Option A) → option_or (option_or o p) r ≡ opti
 or-or None p r = refl
 or-or (Some x) p r = refl
 
-noted-spending : (c p : ℕ) (ns : List Note) (steps : List Step) (h : ℕ)
+noted-spending : (c p : ℕ) (ns : List Note) (steps : List PoolStep) (h : ℕ)
     → pool.spending (noted_steps c p ns steps) h ≡ option_or (pool.spending steps h) (if has (note_words ns) h then Some (pool.spending_of Spend.Noted p) else None)
 noted-spending c p [] steps h = sym (or-none (pool.spending steps h))
 noted-spending c p (n ∷ ns) steps h = noted-spending c p ns _ h ∙ by_spent (pool.spending steps h) (n.word == h) refl
@@ -73,7 +73,7 @@ noted-spending c p (n ∷ ns) steps h = noted-spending c p ns _ h ∙ by_spent (
     by_spent (Some s) true is = refl
     by_spent (Some s) false is = refl
 
-notes-by : (k : Declarations) (past : Past) (d h : ℕ) (w : What) (ns : List Note) (steps : List Step) → pool.spending steps h ≡ told k (log.spending past h)
+notes-by : (k : Declarations) (past : Past) (d h : ℕ) (w : What) (ns : List Note) (steps : List PoolStep) → pool.spending steps h ≡ told k (log.spending past h)
     → spending_told k past d w ≡ pool.spending_of Spend.Noted (length past)
     → pool.spending (noted_steps d (length past) ns steps) h ≡ told k (log.spent_by (has (note_words ns) h) past (entry_by d w) (log.spending past h))
 notes-by k past d h w ns steps same noted =

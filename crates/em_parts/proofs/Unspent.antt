@@ -9,7 +9,7 @@ use Rattle.em_log.specs.History.{Past, has, without}
 use Rattle.em_log.specs.Handles as log
 use Rattle.em_log.specs.Lawful.{AllAllowed}
 use Rattle.em_laws.proofs.Cores.{Compared, Same, Other, compared}
-use Rattle.em_pool.specs.Steps.{Step, Minted, Spent, Shifted, Lost, held}
+use Rattle.em_pool.specs.Steps.{PoolStep, Minted, Spent, Shifted, Lost, held}
 use Rattle.em_pool.specs.Handles as pool
 use Rattle.em_parts.specs.PoolSteps.{pool_steps}
 use Rattle.em_parts.proofs.Mintings.{same-minting}
@@ -65,7 +65,7 @@ if-none true x h = absurd cc
 if-none false x h = refl
 
 -- a handle that is minted and not spent is held by the core that minted it
-pub unspent-held : (steps : List Step) (c w : ℕ) (m : log.Minting) → pool.minting steps w ≡ Some m → m.core ≡ c → pool.spending steps w ≡ None
+pub unspent-held : (steps : List PoolStep) (c w : ℕ) (m : log.Minting) → pool.minting steps w ≡ Some m → m.core ≡ c → pool.spending steps w ≡ None
     → has (held steps c) w ≡ true
 unspent-held [] c w m is core unspent = absurd cc
 unspent-held (Minted d e ∷ steps) c w m is core unspent =

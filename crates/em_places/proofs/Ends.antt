@@ -16,22 +16,22 @@ use Rattle.em_log.specs.Lawful.{AllAllowed}
 use Rattle.em_moments.proofs.Moments.{Moment}
 use Rattle.em_pool.specs.declared.place.Place.{Place}
 use Rattle.em_pool.specs.State.{is_held_by}
-use Rattle.em_pool.specs.Steps.{Step, Lost}
+use Rattle.em_pool.specs.Steps.{PoolStep, Lost}
 use Rattle.em_laws.proofs.Cores.{Compared, Same, Other, compared, if-same, some-inj}
 use Rattle.em_laws.proofs.Lists.{for-queue}
 use Rattle.em_parts.specs.PoolSteps.{Move, moved, entry_place, sent_move, pool_steps}
 use Rattle.em_pool.specs.Spots.{spot}
 use Rattle.em_places.specs.Parked.{Parked, InContext, InQueue, InTaken, InOrder, InOperation, InGroup, InObject, InPool, free_after, Sits, AllSit}
-use Rattle.em_bounds.proofs.Arrivals.{waiting-now}
-use Rattle.em_bounds.proofs.Released.{LetIn, let-in-all}
+use Rattle.em_arrivals.proofs.Arrivals.{waiting-now}
+use Rattle.em_arrivals.proofs.Released.{LetIn, let-in-all}
 use Rattle.em_places.proofs.Moves.{touches, untouched, moved-to, sents-to, touched-sent, came-sent}
 use Rattle.em_places.proofs.FreeAfter.{FreeNow, FreeBefore, CameOut, free-now}
 use Rattle.em_places.proofs.Unmoved.{same-handle, same-place, not-before, delayed-inj}
 use Rattle.em_places.proofs.Spending.{spent-none, SpentBy, SpentBefore, SpentNow, spent-some}
 use Rattle.em_parts.proofs.Unspent.{held-unspent}
-use Rattle.em_bounds.proofs.Lists.{came, AllSent, all-map, InEither, InFirst, InSecond, in-either}
+use Rattle.em_arrivals.proofs.Lists.{came, AllSent, all-map, InEither, InFirst, InSecond, in-either}
 
-pub record LetSits (k : Declarations) (past : Past) (base : List Step) (ms : List Move) (h : ℕ) (p : Place) : Type 0 where
+pub record LetSits (k : Declarations) (past : Past) (base : List PoolStep) (ms : List Move) (h : ℕ) (p : Place) : Type 0 where
   pub last : last_handle past (index_of h) ≡ Some h
   pub spot : spot (moved ms base) (index_of h) ≡ p
 
@@ -41,7 +41,7 @@ let-delayed k past now s i older =
     let u = i.sent in
     older s.handle _ (InOrder u.how u.handle u.to u.number u.stamp u.spent u.what (ap (enters past) u.ticket ∙ i.before) (ap (λ (n : ℕ). Place.Delayed (record { 0 = n })) (sym u.queue)))
 
-let-keep : (k : Declarations) (past now : Past) (ss : List Sent) (base : List Step) (h : ℕ) (p : Place) → AllSent (LetIn past now) ss → AllSit k past → Sits k past h p → spot base (index_of h) ≡ p
+let-keep : (k : Declarations) (past now : Past) (ss : List Sent) (base : List PoolStep) (h : ℕ) (p : Place) → AllSent (LetIn past now) ss → AllSit k past → Sits k past h p → spot base (index_of h) ≡ p
     → ((s : Sent) → LetIn past now s → s.handle ≡ h → p ≡ Place.Delayed (record { 0 = s.queue }) → ⊥) → LetSits k past base (map (sent_move k) ss) h p
 let-keep k past now ss base h p all older s here apart = by_test (touches (map (sent_move k) ss) (index_of h)) refl
   where
@@ -53,7 +53,7 @@ let-keep k past now ss base h p all older s here apart = by_test (touches (map (
         let one = same-handle k past h t.sent.handle p _ s sits t.index in
         absurd (apart t.sent t.holds one (sym (same-place k past h t.sent.handle p _ s sits t.index)))
 
-pub let-enters : (k : Declarations) (past now : Past) (ss : List Sent) (base : List Step) (s : Sent) (h : ℕ) → AllSent (LetIn past now) ss → AllSit k past → LetIn past now s → s.handle ≡ h
+pub let-enters : (k : Declarations) (past now : Past) (ss : List Sent) (base : List PoolStep) (s : Sent) (h : ℕ) → AllSent (LetIn past now) ss → AllSit k past → LetIn past now s → s.handle ≡ h
     → touches (map (sent_move k) ss) (index_of h) ≡ true → LetSits k past base (map (sent_move k) ss) h (entry_place k s.queue)
 let-enters k past now ss base s h all older i same touched =
     let sits : Sits k past h (Place.Delayed (record { 0 = s.queue })) = subst (λ (n : ℕ). Sits k past n (Place.Delayed (record { 0 = s.queue }))) same (let-delayed k past now s i older) in
@@ -79,7 +79,7 @@ still-held past now s f q t st h is what off v i same =
     ticket_in w = None
 
 -- what waits after such an entry
-let-waits : (k : Declarations) (past now : Past) (ss : List Sent) (base : List Step) (h : ℕ) (p : Place) (r c : ℕ) → AllSent (LetIn past now) ss → AllSit k past
+let-waits : (k : Declarations) (past now : Past) (ss : List Sent) (base : List PoolStep) (h : ℕ) (p : Place) (r c : ℕ) → AllSent (LetIn past now) ss → AllSit k past
     → ((q : Parked k past h p) → spot base (index_of h) ≡ p) → is_output (kind_of k r) ≡ false → p ≡ Place.Waiting (record { 0 = r })
     → InEither h (waiting k past r c) (came k past r c ss) → LetSits k past base (map (sent_move k) ss) h p
 let-waits k past now ss base h p r c all older here plain eq (InFirst is) =
@@ -94,7 +94,7 @@ let-waits k past now ss base h p r c all older here plain eq (InSecond is) =
     record { last = moves.last; spot = moves.spot ∙ whole }
 
 -- what comes to an output is free
-let-out : (k : Declarations) (past now : Past) (ss : List Sent) (base : List Step) (h : ℕ) (p : Place) (r c : ℕ) → AllSent (LetIn past now) ss → AllSit k past
+let-out : (k : Declarations) (past now : Past) (ss : List Sent) (base : List PoolStep) (h : ℕ) (p : Place) (r c : ℕ) → AllSent (LetIn past now) ss → AllSit k past
     → is_output (kind_of k r) ≡ true → p ≡ Place.Free → has_item (came k past r c ss) h ≡ true → LetSits k past base (map (sent_move k) ss) h p
 let-out k past now ss base h p r c all older out eq is =
     let s = came-sent k past (LetIn past now) ss r c h all is in
@@ -154,7 +154,7 @@ sits-end k l past d lost cells all m older h p parked = by_parked parked
     ss : List Sent
     ss = let_in past now (open_ticket past d)
 
-    base : List Step
+    base : List PoolStep
     base = Lost d (length past) ∷ pool_steps k past
 
     let_all : AllSent (LetIn past now) ss

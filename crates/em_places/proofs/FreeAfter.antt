@@ -12,7 +12,7 @@ use Rattle.em_log.specs.Arrivals.{entering, arrivals}
 use Rattle.em_log.specs.Places.{has_item, has_entered, note_queue, application_end}
 use Rattle.em_moments.proofs.Asked.{and-true}
 use Rattle.em_places.specs.Parked.{completed_free, noted_free, free_after}
-use Rattle.em_bounds.proofs.Lists.{came, with-came, InEither, InFirst, InSecond, in-either}
+use Rattle.em_arrivals.proofs.Lists.{came, with-came, InEither, InFirst, InSecond, in-either}
 
 both-true : (a b : Bool) → a ≡ true → b ≡ true → (a && b) ≡ true
 both-true true b p q = q

@@ -37,15 +37,15 @@ use Rattle.em_places.proofs.Spending.{in-hand}
 use Rattle.em_laws.specs.Minted.{HasSmallIndices}
 use Rattle.em_pool.specs.State.{is_held_by}
 use Rattle.em_pool.specs.declared.place.Spend.{Spend}
-use Rattle.em_bounds.proofs.Released.{LetIn, let-in-all}
+use Rattle.em_arrivals.proofs.Released.{LetIn, let-in-all}
 use Rattle.em_places.proofs.SpentHandles.{spent-minted, begun-of, applied-list}
 use Rattle.em_places.proofs.Ends.{let-enters, let-delayed}
 use Rattle.em_places.proofs.Notes.{TouchedNote, touched-note, same-touches, noted-untouched, noted-touched, AllNotes, notes-map, OneQueue, one-queue, notes-to, done-once, done-noted, group-noted, AllNoted}
 use Rattle.em_places.proofs.Unmoved.{same-handle}
 use Rattle.em_laws.proofs.Counts.{occ}
-use Rattle.em_pool.specs.Steps.{Step, Spent, Lost}
+use Rattle.em_pool.specs.Steps.{PoolStep, Spent, Lost}
 use Rattle.em_places.proofs.Moves.{touches, untouched, moved-to, items-to, touched-sent}
-use Rattle.em_bounds.proofs.Lists.{came, with-came, AllSent, all-append, all-map, has_item-left, has_item-right}
+use Rattle.em_arrivals.proofs.Lists.{came, with-came, AllSent, all-append, all-map, has_item-left, has_item-right}
 
 -- what comes is in the lists
 
@@ -240,7 +240,7 @@ entry-free k q e = by_kind (is_output (kind_of k q)) e
     by_kind true e = refl
     by_kind false e = absurd cc
 
-let-free : (k : Declarations) (l : Limits) (past now : Past) (o : Option Ticket) (base : List Step) (i : ℕ) → AllAllowed k l past → AllSit k past → touches (map (sent_move k) (let_in past now o)) i ≡ true
+let-free : (k : Declarations) (l : Limits) (past now : Past) (o : Option Ticket) (base : List PoolStep) (i : ℕ) → AllAllowed k l past → AllSit k past → touches (map (sent_move k) (let_in past now o)) i ≡ true
     → spot (moved (map (sent_move k) (let_in past now o)) base) i ≡ Place.Free → LetFree k past now (let_in past now o) i
 let-free k l past now o base i all older touched free =
     let ss : List Sent = let_in past now o in
@@ -430,7 +430,7 @@ fr-next k l past d (What.End lost cells) i lt all m sit old free = by_touch (tou
     ss : List Sent
     ss = let_in past now (open_ticket past d)
 
-    base : List Step
+    base : List PoolStep
     base = Lost d (length past) ∷ pool_steps k past
 
     by_held : (b : Bool) → (if b then Place.Lost else spot (pool_steps k past) i) ≡ Place.Free → spot (pool_steps k past) i ≡ Place.Free

@@ -31,10 +31,10 @@ use Rattle.em_laws.proofs.Served.{cons-some}
 use Rattle.em_parts.specs.PoolSteps.{pool_steps}
 use Rattle.em_pool.specs.Spots.{spot}
 use Rattle.em_places.specs.Parked.{Parked, InContext, InQueue, InTaken, InOrder, InOperation, InGroup, InObject, InPool, free_after, Sits, AllSit}
-use Rattle.em_bounds.proofs.Arrivals.{items-occ, waiting-once, waiting-apart, taken-once}
+use Rattle.em_arrivals.proofs.Arrivals.{items-occ, waiting-once, waiting-apart, taken-once}
 use Rattle.em_places.proofs.FreeAfter.{free-pull}
 use Rattle.em_places.proofs.Unmoved.{same-handle, same-place, MintSits, mint-keeps, mint-aside, mint-context, next-index, apart-lists, taken-inj, waiting-inj, kept-inj}
-use Rattle.em_bounds.proofs.Lists.{drop-more, has_item-drop}
+use Rattle.em_arrivals.proofs.Lists.{drop-more, has_item-drop}
 
 -- an event that is free by the history is free by the steps
 abbrev pub FreeAlike : Declarations → Past → Type 0

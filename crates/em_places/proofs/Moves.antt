@@ -8,11 +8,11 @@ use Rattle.em_log.specs.Order.{Sent}
 use Rattle.em_log.specs.Arrivals.{Item, item, is_for}
 use Rattle.em_log.specs.Places.{has_item}
 use Rattle.em_pool.specs.declared.place.Place.{Place}
-use Rattle.em_pool.specs.Steps.{Step, Shifted}
+use Rattle.em_pool.specs.Steps.{PoolStep, Shifted}
 use Rattle.em_laws.proofs.Cores.{Compared, Same, Other, compared, eqb-eq}
 use Rattle.em_parts.specs.PoolSteps.{Move, moved, item_move, sent_move}
 use Rattle.em_pool.specs.Spots.{spot}
-use Rattle.em_bounds.proofs.Lists.{AllSent, item-handle, InEither, InFirst, InSecond, in-either, or-left, or-right, came}
+use Rattle.em_arrivals.proofs.Lists.{AllSent, item-handle, InEither, InFirst, InSecond, in-either, or-left, or-right, came}
 
 abbrev pub touches : List Move → ℕ → Bool
 touches [] i = false
@@ -23,7 +23,7 @@ abbrev pub AllTo : List Move → ℕ → Place → Type 0
 AllTo [] i t = Unit {0}
 AllTo (m ∷ ms) i t = ((m.index == i) ≡ true → m.to ≡ t) × AllTo ms i t
 
-pub untouched : (ms : List Move) (steps : List Step) (i : ℕ) → touches ms i ≡ false → spot (moved ms steps) i ≡ spot steps i
+pub untouched : (ms : List Move) (steps : List PoolStep) (i : ℕ) → touches ms i ≡ false → spot (moved ms steps) i ≡ spot steps i
 untouched [] steps i none = refl
 untouched (m ∷ ms) steps i none = by_test (m.index == i) refl none (untouched ms (Shifted m.index m.to ∷ steps) i)
   where
@@ -33,7 +33,7 @@ untouched (m ∷ ms) steps i none = by_test (m.index == i) refl none (untouched 
     by_test true is none later = absurd cc
     by_test false is none later = later none ∙ (rw is refl)
 
-pub moved-to : (ms : List Move) (steps : List Step) (i : ℕ) (t : Place) → AllTo ms i t → touches ms i ≡ true → spot (moved ms steps) i ≡ t
+pub moved-to : (ms : List Move) (steps : List PoolStep) (i : ℕ) (t : Place) → AllTo ms i t → touches ms i ≡ true → spot (moved ms steps) i ≡ t
 moved-to [] steps i t to some = absurd cc
 moved-to (m ∷ ms) steps i t to some =
     by_rest (touches ms i) refl some (moved-to ms (Shifted m.index m.to ∷ steps) i t to.1) (untouched ms (Shifted m.index m.to ∷ steps) i)

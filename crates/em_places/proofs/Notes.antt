@@ -27,7 +27,7 @@ use Rattle.em_moments.proofs.Asked.{and-true}
 use Rattle.em_moments.proofs.Moments.{Moment, BeginMoment, ApplyMoment, AbortMoment}
 use Rattle.em_pool.specs.declared.place.Place.{Place}
 use Rattle.em_pool.specs.declared.place.Spend.{Spend}
-use Rattle.em_pool.specs.Steps.{Step, Spent}
+use Rattle.em_pool.specs.Steps.{PoolStep, Spent}
 use Rattle.em_laws.proofs.Cores.{Compared, Same, Other, compared, if-same, some-inj, eqb-eq, none-some}
 use Rattle.em_laws.proofs.Counts.{occ, has-occ}
 use Rattle.em_laws.proofs.Dones.{done-completes}
@@ -35,17 +35,17 @@ use Rattle.em_laws.proofs.Lists.{for-queue}
 use Rattle.em_laws.proofs.Respects.{DoneNow, done-now}
 use Rattle.em_laws.proofs.Spent.{notes-usable, notes-spent, applied-spent, unended}
 use Rattle.em_laws.proofs.Entering.{times_allowed, times_allowed_by, one_if_ok}
-use Rattle.em_bounds.proofs.Entered.{entered-let}
+use Rattle.em_arrivals.proofs.Entered.{entered-let}
 use Rattle.em_places.proofs.SpentHandles.{begun-of, applied-of}
 use Rattle.em_places.proofs.FreeAfter.{free-pull, FreeNow, FreeBefore, CameOut, completed-now, noted-freed}
 use Rattle.em_parts.specs.PoolSteps.{Move, moved, entry_place, note_place, note_move, freed_move, noted_steps, pool_steps}
 use Rattle.em_pool.specs.Spots.{spot}
 use Rattle.em_places.specs.Parked.{completed_free, noted_free, Parked, InContext, InQueue, InTaken, InOrder, InOperation, InGroup, InObject, InPool, free_after, Sits, AllSit}
-use Rattle.em_bounds.proofs.Arrivals.{waiting-now}
+use Rattle.em_arrivals.proofs.Arrivals.{waiting-now}
 use Rattle.em_places.proofs.Moves.{touches, AllTo, untouched, moved-to, came-sent}
 use Rattle.em_places.proofs.Unmoved.{same-handle, same-place, not-before}
 use Rattle.em_places.proofs.Spending.{InHand, in-hand, spent-none, SpentBy, SpentBefore, SpentNow, spent-some}
-use Rattle.em_bounds.proofs.Lists.{came, AllSent, InEither, InFirst, InSecond, in-either}
+use Rattle.em_arrivals.proofs.Lists.{came, AllSent, InEither, InFirst, InSecond, in-either}
 
 -- the words of notes
 
@@ -81,7 +81,7 @@ same-touches k now (n ∷ ns) i = ap (λ b. (index_of n.word == i) || b) (same-t
 
 -- notes that are handed in
 
-pub noted-untouched : (c place : ℕ) (ns : List Note) (steps : List Step) (i : ℕ) → touches (map freed_move ns) i ≡ false → spot (noted_steps c place ns steps) i ≡ spot steps i
+pub noted-untouched : (c place : ℕ) (ns : List Note) (steps : List PoolStep) (i : ℕ) → touches (map freed_move ns) i ≡ false → spot (noted_steps c place ns steps) i ≡ spot steps i
 noted-untouched c place [] steps i none = refl
 noted-untouched c place (n ∷ ns) steps i none =
     by_test (index_of n.word == i) refl none (noted-untouched c place ns (Spent c n.word Spend.Noted place ∷ steps) i)
@@ -92,7 +92,7 @@ noted-untouched c place (n ∷ ns) steps i none =
     by_test true is none later = absurd cc
     by_test false is none later = later none ∙ (rw is refl)
 
-pub noted-touched : (c place : ℕ) (ns : List Note) (steps : List Step) (i : ℕ) → touches (map freed_move ns) i ≡ true → spot (noted_steps c place ns steps) i ≡ Place.Noted
+pub noted-touched : (c place : ℕ) (ns : List Note) (steps : List PoolStep) (i : ℕ) → touches (map freed_move ns) i ≡ true → spot (noted_steps c place ns steps) i ≡ Place.Noted
 noted-touched c place [] steps i some = absurd cc
 noted-touched c place (n ∷ ns) steps i some =
     by_rest (touches (map freed_move ns) i) refl some (noted-touched c place ns (Spent c n.word Spend.Noted place ∷ steps) i)

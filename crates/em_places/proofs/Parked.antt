@@ -32,7 +32,7 @@ use Rattle.em_laws.proofs.Respects.{done-now}
 use Rattle.em_parts.specs.PoolSteps.{moved, item_move, sent_move, freed_move, back_moves, out_moves, pool_steps}
 use Rattle.em_pool.specs.Spots.{spot}
 use Rattle.em_places.specs.Parked.{completed_free, noted_free, free_after, Parked, InContext, InQueue, InTaken, InOrder, InOperation, InGroup, InObject, InPool, Sits, AllSit}
-use Rattle.em_bounds.proofs.Released.{LetIn, let-in-all}
+use Rattle.em_arrivals.proofs.Released.{LetIn, let-in-all}
 use Rattle.em_parts.proofs.QueueLists.{served-output}
 use Rattle.em_places.proofs.Moves.{touches, untouched, touched-item, touched-sent}
 use Rattle.em_places.proofs.Minting.{FreeAlike}
@@ -40,7 +40,7 @@ use Rattle.em_places.proofs.Spending.{in-hand}
 use Rattle.em_places.proofs.Notes.{AllNoted, all-in-hand, touched-note, same-touches, noted-untouched, done-noted, group-noted}
 use Rattle.em_places.proofs.Ends.{let-delayed}
 use Rattle.em_places.proofs.Entries.{KeptOnce, next-kept_once, next-sits}
-use Rattle.em_bounds.proofs.Lists.{has_item-take}
+use Rattle.em_arrivals.proofs.Lists.{has_item-take}
 
 -- an event that was never minted is free
 

@@ -26,15 +26,15 @@ use Rattle.em_laws.proofs.Cores.{Compared, Same, Other, compared, if-same, some-
 use Rattle.em_laws.proofs.Lists.{for-queue}
 use Rattle.em_laws.proofs.Spent.{usable}
 use Rattle.em_laws.proofs.Entering.{times_allowed}
-use Rattle.em_bounds.proofs.Entered.{entered-let}
+use Rattle.em_arrivals.proofs.Entered.{entered-let}
 use Rattle.em_parts.specs.PoolSteps.{moved, entry_place, out_moves, pool_steps}
 use Rattle.em_pool.specs.Spots.{spot}
 use Rattle.em_places.specs.Parked.{Parked, InContext, InQueue, InTaken, InOrder, InOperation, InGroup, InObject, InPool, free_after, Sits, AllSit}
-use Rattle.em_bounds.proofs.Arrivals.{waiting-now}
+use Rattle.em_arrivals.proofs.Arrivals.{waiting-now}
 use Rattle.em_places.proofs.Moves.{came-sent}
 use Rattle.em_places.proofs.FreeAfter.{free-pull, Enters, EnteredBefore, CameNow, enters-by, FreeNow, FreeBefore, CameOut, free-now}
 use Rattle.em_places.proofs.Unmoved.{same-handle, same-place, not-before}
-use Rattle.em_bounds.proofs.Lists.{came, AllSent, InEither, InFirst, InSecond, in-either}
+use Rattle.em_arrivals.proofs.Lists.{came, AllSent, InEither, InFirst, InSecond, in-either}
 
 -- a handle that may be used sits with a core
 pub record InHand (k : Declarations) (past : Past) (f : ℕ) : Type 0 where

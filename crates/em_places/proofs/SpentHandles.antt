@@ -79,7 +79,7 @@ without-has h n (x ∷ xs) is = by_test (x == n) is (without-has h n xs)
     by_test true is later = or-right (x == h) (has xs h) (later is)
     by_test false is later = by_own (x == h) refl is later
 
-steps-held : (steps : List pools.Step) (c h : ℕ) → has (pools.held steps c) h ≡ true → (m : Minting) × (pool.minting steps h ≡ Some m)
+steps-held : (steps : List pools.PoolStep) (c h : ℕ) → has (pools.held steps c) h ≡ true → (m : Minting) × (pool.minting steps h ≡ Some m)
 steps-held [] c h is = absurd cc
 steps-held (pools.Minted d e ∷ steps) c h is = by_core (d == c) is (steps-held steps c h)
   where

@@ -24,11 +24,11 @@ use Rattle.em_parts.specs.PoolSteps.{Move, moved, item_move, back_moves, pool_st
 use Rattle.em_pool.specs.Spots.{spot}
 use Rattle.em_places.specs.Parked.{Parked, InContext, InQueue, InTaken, InOrder, InOperation, InGroup, InObject, InPool, free_after, Sits, AllSit}
 use Rattle.em_parts.proofs.QueueLists.{served-output}
-use Rattle.em_bounds.proofs.Arrivals.{waiting-once, waiting-apart, front-apart, given-back}
+use Rattle.em_arrivals.proofs.Arrivals.{waiting-once, waiting-apart, front-apart, given-back}
 use Rattle.em_places.proofs.Moves.{touches, untouched, moved-to, items-to, touched-item, item-touched}
 use Rattle.em_places.proofs.FreeAfter.{free-pull}
 use Rattle.em_places.proofs.Unmoved.{same-handle, same-place, apart-lists, taken-inj, waiting-inj, not-before}
-use Rattle.em_bounds.proofs.Lists.{drop-more, has_item-take, has_item-drop, InEither, InFirst, InSecond, in-either}
+use Rattle.em_arrivals.proofs.Lists.{drop-more, has_item-take, has_item-drop, InEither, InFirst, InSecond, in-either}
 
 -- after these items have moved
 record MovedSits (k : Declarations) (past : Past) (ms : List Move) (h : ℕ) (p : Place) : Type 0 where

@@ -3,7 +3,7 @@ use Rattle.std.proofs.Common.{◌≡◌, ℕ, zero, suc, ◌+◌, ◌<◌, ◌�
 use Rattle.em_log.specs.declared.declarations.PoolShape.{PoolShape}
 use Rattle.em_log.specs.declared.fault.Fault.{Fault}
 use Rattle.em_log.specs.Declarations.{numbers_from, event_total}
-use Rattle.em_pool.specs.Steps.{Step}
+use Rattle.em_pool.specs.Steps.{PoolStep}
 use Rattle.em_pool.specs.Handles.{next_handle}
 use Rattle.em_pool.specs.Places.{place, is_free, live, first_free, events_of, words_of, indices_of, alloc_handle, alloc_answer, handle_unless}
 use Rattle.em_pool.specs.State.{PoolState, place_at}
@@ -39,7 +39,7 @@ length-numbers_from zero a = refl
 length-numbers_from (suc n) a = ap (λ m. suc m) (length-numbers_from n (suc a))
 
 -- where none of the events is free, all of them are live
-all-live : (s : List Step) (is : List ℕ) → first_free s is ≡ None → live s is ≡ length is
+all-live : (s : List PoolStep) (is : List ℕ) → first_free s is ≡ None → live s is ≡ length is
 all-live s [] e = refl
 all-live s (i ∷ is) e = by_test (is_free (place s i)) (all-live s is) e
   where
@@ -51,7 +51,7 @@ all-live s (i ∷ is) e = by_test (is_free (place s i)) (all-live s is) e
 not_more : (words size : ℕ) → size ≤ words → nat_lt words size ≡ false
 not_more words size le = lt-leb_not (suc words) size (omega arith)
 
-pub answer-empty : (pools : List PoolShape) (s : List Step) (p size : ℕ) → size ≤ words_of pools p → first_free s (indices_of pools p) ≡ None
+pub answer-empty : (pools : List PoolShape) (s : List PoolStep) (p size : ℕ) → size ≤ words_of pools p → first_free s (indices_of pools p) ≡ None
     → alloc_answer pools s p size ≡ Err (Fault.PoolEmpty (events_of pools p))
 answer-empty pools s p size le none =
     let all = all-live s (indices_of pools p) none ∙ length-numbers_from (events_of pools p) (event_total (take p pools)) in
@@ -59,7 +59,7 @@ answer-empty pools s p size le none =
     ((λ k. if not_more (words_of pools p) size le k then Some (Fault.BadSize (words_of pools p))
     else if is_none (none k) then Some (Fault.PoolEmpty (all k)) else None))
 
-pub answer-minted : (pools : List PoolShape) (s : List Step) (p size i : ℕ) → size ≤ words_of pools p → first_free s (indices_of pools p) ≡ Some i
+pub answer-minted : (pools : List PoolShape) (s : List PoolStep) (p size i : ℕ) → size ≤ words_of pools p → first_free s (indices_of pools p) ≡ Some i
     → alloc_answer pools s p size ≡ Ok (record { 0 = next_handle s i })
 answer-minted pools s p size i le some =
     (λ k. handle_unless
@@ -67,5 +67,5 @@ answer-minted pools s p size i le some =
     else if is_none (some k) then Some (Fault.PoolEmpty (live s (indices_of pools p))) else None)
     (next_handle s (unwrap_or (some k) 0)))
 
-pub first-same : {v : PoolState} {s : List Step} → Stands v s → (is : List ℕ) → first_free s is ≡ find (λ i. is_free (place_at v i)) is
+pub first-same : {v : PoolState} {s : List PoolStep} → Stands v s → (is : List ℕ) → first_free s is ≡ find (λ i. is_free (place_at v i)) is
 first-same stands is = sym (λ k. find (λ i. is_free (stands.places i k)) is)

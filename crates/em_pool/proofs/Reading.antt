@@ -10,7 +10,7 @@ use Rattle.em_log.specs.Handles.{Minting}
 use Rattle.em_pool.specs.declared.place.Place.{Place}
 use Rattle.em_pool.specs.declared.place.Spent.{Spent as SpentRecord}
 use Rattle.em_pool.specs.declared.slot.Slot.{Slot}
-use Rattle.em_pool.specs.Steps.{Step, Minted, Spent, Shifted, Lost}
+use Rattle.em_pool.specs.Steps.{PoolStep, Minted, Spent, Shifted, Lost}
 use Rattle.em_pool.specs.Handles.{Spending, minting, spending, last_handle, rule, rule_of}
 use Rattle.em_pool.specs.Places.{shift, place_by, place_of}
 use Rattle.em_pool.specs.State.{PoolState, fresh, generation_at, place_at, generation_of, is_minted, is_last, spent_in, rule_at, rule_by}
@@ -18,7 +18,7 @@ use Rattle.em_pool.specs.Stands.{Stands, spent_of}
 use Rattle.em_pool.proofs.Numbers.{bool_cases, from_test, handle-parts, both, and-right, lt-leb_not}
 
 -- the index of a last handle
-pub last_handle-index : (s : List Step) (j h : ℕ) → last_handle s j ≡ Some h → index_of h ≡ j
+pub last_handle-index : (s : List PoolStep) (j h : ℕ) → last_handle s j ≡ Some h → index_of h ≡ j
 last_handle-index [] j h e = absurd (cc e)
 last_handle-index (Minted c e ∷ s) j h is = by_test (index_of e.handle.0 == j) refl (λ got. last_handle-index s j h got) is
   where
@@ -68,7 +68,7 @@ rule-cases c w (Some m) None true where_is spent e f held =
     (λ i. rule_by c where_is (sym f i)) ∙ ap (λ p. rule_by c p None) (held m refl refl)
 rule-cases c w (Some m) (Some s) true where_is spent e f held = ap (λ o. rule_by c where_is o) (sym f)
 
-module _ {v : PoolState} {s : List Step} (stands : Stands v s) where
+module _ {v : PoolState} {s : List PoolStep} (stands : Stands v s) where
   -- the last handle of an index, told by its parts
   pub last-is : (h : ℕ) → is_minted v h ≡ true → is_last v h ≡ true → last_handle s (index_of h) ≡ Some h
   last-is h minted last =

@@ -8,19 +8,19 @@ use Rattle.em_log.specs.Declarations.{numbers_from, event_total}
 use Rattle.em_log.specs.History.{index_of}
 use Rattle.em_log.specs.Handles.{Minting}
 use Rattle.em_pool.specs.declared.place.Place.{Place}
-use Rattle.em_pool.specs.Steps.{Step, Minted, Spent, Shifted, Lost}
+use Rattle.em_pool.specs.Steps.{PoolStep, Minted, Spent, Shifted, Lost}
 use Rattle.em_pool.specs.Handles.{Spending, minting, spending, last_handle, next_handle}
 
 -- places
 
-abbrev pub shift_after : ℕ → Step → Option Place → Option Place
+abbrev pub shift_after : ℕ → PoolStep → Option Place → Option Place
 shift_after i (Minted c e) was = if index_of e.handle.0 == i then None else was
 shift_after i (Spent c h how p) was = was
 shift_after i (Shifted j to) was = if j == i then Some to else was
 shift_after i (Lost c p) was = was
 
 -- where the event of this index was last shifted to since its last minting, if it was
-abbrev pub shift : List Step → ℕ → Option Place
+abbrev pub shift : List PoolStep → ℕ → Option Place
 shift [] i = None
 shift (s ∷ steps) i = shift_after i s (shift steps i)
 
@@ -29,12 +29,12 @@ place_of None s to = Place.Free
 place_of (Some m) None to = Place.Held (record { 0 = m.core })
 place_of (Some m) (Some s) to = unwrap_or to s.to
 
-abbrev pub place_by : List Step → ℕ → Option ℕ → Place
+abbrev pub place_by : List PoolStep → ℕ → Option ℕ → Place
 place_by steps i None = Place.Free
 place_by steps i (Some h) = place_of (minting steps h) (spending steps h) (shift steps i)
 
 -- where the event of index i is, read off its last minting, what spent that handle, and the shifts since
-abbrev pub place : List Step → ℕ → Place
+abbrev pub place : List PoolStep → ℕ → Place
 place steps i = place_by steps i (last_handle steps i)
 
 -- kinds of places
@@ -71,12 +71,12 @@ is_mintable _ = false
 -- pools
 
 -- how many of these events are live: not free
-abbrev pub live : List Step → List ℕ → ℕ
+abbrev pub live : List PoolStep → List ℕ → ℕ
 live steps [] = 0
 live steps (i ∷ is) = if is_free (place steps i) then live steps is else suc (live steps is)
 
 -- the first of these events that is free
-abbrev pub first_free : List Step → List ℕ → Option ℕ
+abbrev pub first_free : List PoolStep → List ℕ → Option ℕ
 first_free steps is = find (λ i. is_free (place steps i)) is
 
 abbrev pub events_of : List PoolShape → ℕ → ℕ
@@ -90,14 +90,14 @@ abbrev pub indices_of : List PoolShape → ℕ → List ℕ
 indices_of pools p = numbers_from (event_total (take p pools)) (events_of pools p)
 
 -- an alloc is refused for more words than the pool's, then where no event of the pool is free
-abbrev pub alloc_refusal : List PoolShape → List Step → ℕ → ℕ → Option Fault
+abbrev pub alloc_refusal : List PoolShape → List PoolStep → ℕ → ℕ → Option Fault
 alloc_refusal pools steps p size =
     if nat_lt (words_of pools p) size then Some (Fault.BadSize (words_of pools p))
     else if is_none (first_free steps (indices_of pools p)) then Some (Fault.PoolEmpty (live steps (indices_of pools p)))
     else None
 
 -- the next handle of the pool's least free index
-abbrev pub alloc_handle : List PoolShape → List Step → ℕ → ℕ
+abbrev pub alloc_handle : List PoolShape → List PoolStep → ℕ → ℕ
 alloc_handle pools steps p = next_handle steps (unwrap_or (first_free steps (indices_of pools p)) 0)
 
 abbrev pub handle_unless : Option Fault → ℕ → Result Handle Fault
@@ -105,5 +105,5 @@ handle_unless None h = Ok (record { 0 = h })
 handle_unless (Some f) h = Err f
 
 -- what an alloc answers
-abbrev pub alloc_answer : List PoolShape → List Step → ℕ → ℕ → Result Handle Fault
+abbrev pub alloc_answer : List PoolShape → List PoolStep → ℕ → ℕ → Result Handle Fault
 alloc_answer pools steps p size = handle_unless (alloc_refusal pools steps p size) (alloc_handle pools steps p)

@@ -1,5 +1,5 @@
 -- What the pools mean: numbers, lists and a finite map, and what can be read off them.
-use Rattle.std.specs.Prelude.{ℕ, ◌/◌, ◌==◌, nat_le, Bool, false, ◌&&◌, List, [], slice_index_or, count_by, Option, Some, None, if◌then◌else◌, refl}
+use Rattle.std.specs.Prelude.{ℕ, ◌+◌, ◌/◌, ◌==◌, nat_le, Bool, false, ◌&&◌, List, [], slice_index_or, count_by, Option, Some, None, if◌then◌else◌, refl}
 use Rattle.std.specs.Coded.{Coded, code_by, coded×, coded_ℕ, coded_list}
 use Rattle.std.specs.FinMap as map
 use Rattle.em_log.specs.declared.declarations.PoolShape.{PoolShape}
@@ -29,6 +29,14 @@ state_code =
     (λ v. (v.pools, (v.slots, (v.older, (v.mintings, v.spare)))))
     (λ p. record { pools = p.0; slots = p.1.0; older = p.1.1.0; mintings = p.1.1.1.0; spare = p.1.1.1.1 })
     (λ _. refl)
+
+-- what no call on an event changes: the shapes of the pools, and how many handles can be minted in all
+pub record Shape : Type 0 where
+  pub pools : List PoolShape
+  pub handles : ℕ
+
+abbrev pub shape : PoolState → Shape
+shape v = record { pools = v.pools; handles = v.mintings + v.spare }
 
 -- an event of which no handle was minted
 abbrev pub fresh : Slot

@@ -26,8 +26,8 @@ use Rattle.em_laws.proofs.Lists.{grows-by, for-queue, waiting-for}
 use Rattle.em_laws.proofs.Counts.{occ, times, occ-append, times-append, entered}
 use Rattle.em_laws.proofs.Entering.{times_allowed-le, entered-allowed}
 use Rattle.em_laws.proofs.Started.{Holds, Tracked, Idle, Busy, tracked, take-served, receives-queue, nobody-holds, unscheduled-not_served}
-use Rattle.em_bounds.proofs.Lists.{came, with-came, giving-back}
-use Rattle.em_bounds.proofs.Gone.{gone-within, gone-fits}
+use Rattle.em_arrivals.proofs.Lists.{came, with-came, giving-back}
+use Rattle.em_arrivals.proofs.Gone.{gone-within, gone-fits}
 
 -- once
 

@@ -18,7 +18,7 @@ use Rattle.em_moments.proofs.Moments.{Moment, allowed-moment}
 use Rattle.em_laws.proofs.Cores.{eqb-eq}
 use Rattle.em_laws.proofs.Spent.{usable, spending-kept, spends-now}
 use Rattle.em_laws.proofs.Tickets.{nat-le-true, nat-le-is, nat-le-false}
-use Rattle.em_bounds.proofs.Lists.{AllSent, all-append, all-map}
+use Rattle.em_arrivals.proofs.Lists.{AllSent, all-append, all-map}
 
 pub record SentUnder (past : Past) (q m : ℕ) (s : Sent) : Type 0 where
   pub how : Spending

@@ -10,7 +10,7 @@ use Rattle.em_log.specs.Arrivals.{arrivals}
 use Rattle.em_log.specs.Places.{has_item, has_entered}
 use Rattle.em_log.specs.Lawful.{AllAllowed}
 use Rattle.em_laws.proofs.Entering.{times_allowed, entered-allowed}
-use Rattle.em_bounds.proofs.Arrivals.{arrivals-once, items-occ}
+use Rattle.em_arrivals.proofs.Arrivals.{arrivals-once, items-occ}
 
 -- what has entered was let
 

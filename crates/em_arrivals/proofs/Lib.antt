@@ -1,0 +1,5 @@
+pub mod Lists
+pub mod Gone
+pub mod Arrivals
+pub mod Released
+pub mod Entered
