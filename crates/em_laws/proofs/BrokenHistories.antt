@@ -1,18 +1,21 @@
 -- The short histories that break the laws.
 use Rattle.std.specs.Prelude.{T, ltb}
-use Rattle.std.proofs.Common.{◌≡◌, ◌≤◌, ℕ, true, List, Option, [], ◌∷◌, ◌++◌, length, map, take, Some, None, refl, sym, subst, inl, lit<, arith}
+use Rattle.std.proofs.Common.{◌≡◌, ◌≢◌, ◌≤◌, ◌==◌, ℕ, true, false, List, Option, [], ◌∷◌, ◌++◌, length, map, take, Some, None, refl, sym, ap, ◌∙◌, subst, inl, lit<, arith}
 use Rattle.em_log.specs.declared.declarations.Declarations.{Declarations}
 use Rattle.em_log.specs.declared.ask.Ask.{Ask}
 use Rattle.em_log.specs.declared.entry.Entry.{Entry}
+use Rattle.em_log.specs.declared.entry.Event.{Event}
 use Rattle.em_log.specs.declared.ids.Limits.{Limits}
+use Rattle.em_log.specs.declared.ids.Stamp.{Stamp}
 use Rattle.em_log.specs.History.{Past, has}
 use Rattle.em_log.specs.Order.{enters, ticket_of_send}
 use Rattle.em_log.specs.Arrivals.{Item, arrivals}
-use Rattle.em_log.specs.Atomic.{has_open_take}
+use Rattle.em_log.specs.Atomic.{holder, has_open_take}
+use Rattle.em_log.specs.Leads.{item_again}
 use Rattle.em_log.specs.Lawful.{Steps, Boots, Takes, Untakes, Asks, IsNext, Allowed, AllAllowed, Lawful, due}
 use Rattle.em_log.specs.Laws.{entered_in, HoldsAlone, OnlyHolder, EntersAsSent, Once, shown_item, starts, within}
 use Rattle.em_moments.proofs.Moments.{allowed-moment}
-use Rattle.em_laws.specs.Broken.{BreaksOnly, StopLaw, GroupLaw, AtomicLaw, OnceLaw, two_cores, ten_receives, queue, op, egroup, zero_cells, stop_begun, early_ack, stop_completes, group_changed, excluded_take, excluded_starts, one_inside, second_take, second_starts, aborted, second_notification, given_back, second_start}
+use Rattle.em_laws.specs.Broken.{LawName, Obeys, BreaksOnly, StopLaw, GroupLaw, AtomicLaw, EntersOnceLaw, EntersInTurnLaw, StartsInOrderLaw, StartsNextLaw, NotifiesOnceLaw, two_cores, ten_receives, queue, op, egroup, zero_cells, stop_begun, early_ack, stop_completes, group_changed, excluded_take, excluded_starts, one_inside, second_take, second_starts, first_stamp, aborted, second_notification, one_received, given_back, second_start, one_sent, second_send, boot_ends, only_boot}
 use Rattle.em_laws.proofs.Cores.{Compared, Same, Other, compared, none-some, some-inj}
 use Rattle.em_laws.proofs.Blocks.{all-before}
 use Rattle.em_laws.proofs.Steps.{acker-idle, contexts}
@@ -31,17 +34,35 @@ x also y = (x, y)
 comes : {past : Past} {e : Entry} → T (ltb e.core.0 2) → IsNext two_cores ten_receives past (due two_cores past) e → Allowed two_cores ten_receives past e
 comes c next = record { core = lit< c; next = next }
 
--- the item of an event that was sent without a stamp
+-- an event as it was sent
+abbrev stamped : ℕ → Option Stamp → Item
+stamped h s = record { handle = h; kind = 7; words = []; stamp = s }
+
 abbrev item_of : ℕ → Item
-item_of h = record { handle = h; kind = 7; words = []; stamp = None }
+item_of h = stamped h None
 
 -- a send that has entered: it stands between these items of its queue
-stands-between : {now past : Past} {d h q : ℕ} {t : Option ℕ} (before after : List Item) → has (entered_in two_cores now q) h ≡ enters now (ticket_of_send past d t)
-    → ((c : ℕ) → arrivals two_cores now q c ≡ before ++ item_of h ∷ after) → EntersAsSent two_cores now past d h q t None
+stands-between : {now past : Past} {d h q : ℕ} {t : Option ℕ} {s : Option Stamp} (before after : List Item) → has (entered_in two_cores now q) h ≡ enters now (ticket_of_send past d t)
+    → ((c : ℕ) → arrivals two_cores now q c ≡ before ++ stamped h s ∷ after) → EntersAsSent two_cores now past d h q t s
 stands-between before after turn list = record {
   turn = turn;
-  stands = λ on c own. record { before = before; item = item_of _; after = after; list = list c; handle = refl; stamp = refl };
+  stands = λ on c own. record { before = before; item = stamped _ _; after = after; list = list c; handle = refl; stamp = refl };
 }
+
+-- the other laws, each by itself
+but : (law : LawName) (past : Past) → (StopLaw ≢ law → Obeys StopLaw two_cores past) → (GroupLaw ≢ law → Obeys GroupLaw two_cores past)
+    → (AtomicLaw ≢ law → Obeys AtomicLaw two_cores past) → (EntersOnceLaw ≢ law → Obeys EntersOnceLaw two_cores past)
+    → (EntersInTurnLaw ≢ law → Obeys EntersInTurnLaw two_cores past) → (StartsInOrderLaw ≢ law → Obeys StartsInOrderLaw two_cores past)
+    → (StartsNextLaw ≢ law → Obeys StartsNextLaw two_cores past) → (NotifiesOnceLaw ≢ law → Obeys NotifiesOnceLaw two_cores past)
+    → (other : LawName) → other ≢ law → Obeys other two_cores past
+but law past stop group atomic once turn order next notified StopLaw other = stop other
+but law past stop group atomic once turn order next notified GroupLaw other = group other
+but law past stop group atomic once turn order next notified AtomicLaw other = atomic other
+but law past stop group atomic once turn order next notified EntersOnceLaw other = once other
+but law past stop group atomic once turn order next notified EntersInTurnLaw other = turn other
+but law past stop group atomic once turn order next notified StartsInOrderLaw other = order other
+but law past stop group atomic once turn order next notified StartsNextLaw other = next other
+but law past stop group atomic once turn order next notified NotifiesOnceLaw other = notified other
 
 -- an acknowledgement with a receive open
 
@@ -105,7 +126,7 @@ stop-acked = record {
       also tt;
   whole = refl;
   broken = λ law. absurd (cc (law.after.0 1 2 (inl refl) 0 refl));
-  others = (group-obeyed two_cores stop_history refl, atomic-obeyed two_cores stop_history refl, stop-once);
+  others = but StopLaw stop_history (λ own. absurd (own refl)) (λ _. group-obeyed two_cores stop_history refl) (λ _. atomic-obeyed two_cores stop_history refl) (λ _. stop-once.different) (λ _. stop-once.sent) (λ _. stop-once.started) (λ _. stop-once.renewed) (λ _. stop-once.notified);
   unlawful = not-lawful two_cores ten_receives stop_completes early_ack stop_begun ack-wrong;
 }
 
@@ -153,7 +174,7 @@ excluded-takes = record {
   after = comes tt refl also tt;
   whole = refl;
   broken = λ law. absurd (cc (law.after.0 1 2 (inl refl) 1 1 refl refl));
-  others = (stop-obeyed two_cores group_history refl, atomic-obeyed two_cores group_history refl, group-once);
+  others = but GroupLaw group_history (λ _. stop-obeyed two_cores group_history refl) (λ own. absurd (own refl)) (λ _. atomic-obeyed two_cores group_history refl) (λ _. group-once.different) (λ _. group-once.sent) (λ _. group-once.started) (λ _. group-once.renewed) (λ _. group-once.notified);
   unlawful = not-lawful two_cores ten_receives excluded_starts excluded_take group_changed excluded-wrong;
 }
 
@@ -202,7 +223,7 @@ two-inside = record {
   after = comes tt refl also tt;
   whole = refl;
   broken = λ law. absurd (cc (law.0 0 1 refl).holder);
-  others = (stop-obeyed two_cores inside_history refl, group-obeyed two_cores inside_history refl, inside-once);
+  others = but AtomicLaw inside_history (λ _. stop-obeyed two_cores inside_history refl) (λ _. group-obeyed two_cores inside_history refl) (λ own. absurd (own refl)) (λ _. inside-once.different) (λ _. inside-once.sent) (λ _. inside-once.started) (λ _. inside-once.renewed) (λ _. inside-once.notified);
   unlawful = not-lawful two_cores ten_receives second_starts second_take one_inside second-wrong;
 }
 
@@ -235,25 +256,52 @@ notification-wrong allowed =
 abbrev notified_history : Past
 notified_history = second_notification ∷ aborted
 
-pub notifies-twice : BreaksOnly two_cores ten_receives OnceLaw [] second_notification aborted
+notified-starts : Obeys StartsInOrderLaw two_cores notified_history
+notified-starts q c = by_queue (compared 2 q)
+  where
+    by_queue : Compared 2 q → starts two_cores notified_history q c ≡ take (length (starts two_cores notified_history q c)) (map shown_item (arrivals two_cores notified_history q c))
+    by_queue (Same _ e) = subst (λ i. starts two_cores notified_history i c ≡ take (length (starts two_cores notified_history i c)) (map shown_item (arrivals two_cores notified_history i c))) e refl
+    by_queue (Other f _) = rw f refl
+
+pub notifies-twice : BreaksOnly two_cores ten_receives NotifiesOnceLaw [] second_notification aborted
 notifies-twice = record {
   before = record { each = aborted-allowed; whole = refl };
   wrong = notification-wrong;
   after = tt;
   whole = refl;
-  broken = λ law. let once : 2 ≤ 1 = law.notified 0 1 in absurd (omega (arith, once));
-  others = (stop-obeyed two_cores notified_history refl, group-obeyed two_cores notified_history refl, atomic-obeyed two_cores notified_history refl);
+  broken = λ law. let once : 2 ≤ 1 = law 0 1 in absurd (omega (arith, once));
+  others = but NotifiesOnceLaw notified_history (λ _. stop-obeyed two_cores notified_history refl) (λ _. group-obeyed two_cores notified_history refl)
+      (λ _. atomic-obeyed two_cores notified_history refl) (λ _. refl also refl also tt)
+      (λ _. tt also tt also tt also tt also tt also tt also tt also tt also tt also tt also tt
+      also stands-between (stamped 65536 (Some first_stamp) ∷ []) [] refl (λ c. refl) also tt also stands-between [] (item_of 65537 ∷ []) refl (λ c. refl)
+      also tt also tt also tt also tt)
+      (λ _. notified-starts)
+      (λ _. tt also tt also tt also refl also tt also tt also tt also tt also refl also tt also tt also tt also tt also tt also tt also tt also tt also tt)
+      (λ own. absurd (own refl));
   unlawful = not-lawful two_cores ten_receives [] second_notification aborted notification-wrong;
 }
 
--- an event that is started twice after it was given back
+-- core 0 alone is in the atomic group, and holds it
+zero-holds : (past : Past) → within two_cores past 0 ≡ Some 0 → holder two_cores past 0 ≡ Some 0 → ((c : ℕ) → (0 == c) ≡ false → within two_cores past c ≡ None)
+    → ((c : ℕ) → (0 == c) ≡ false → has_open_take two_cores past 0 c ≡ false) → OnlyHolder two_cores past
+zero-holds past inside holds outside untaken a c h = by_core (compared 0 c)
+  where
+    alone : (d : ℕ) → has_open_take two_cores past 0 d ≡ true → Compared 0 d → d ≡ 0
+    alone d opened (Same _ e) = sym e
+    alone d opened (Other f _) = absurd (let none = untaken d f in cc (none, opened))
 
-given-allowed : AllAllowed two_cores ten_receives given_back
-given-allowed =
-    comes tt refl
-    also comes tt (Takes 0 refl refl)
-    also comes tt (Untakes 0 _ _ refl refl refl refl)
-    also comes tt (Asks (Ask.End (Some zero_cells)) refl refl)
+    by_core : Compared 0 c → HoldsAlone two_cores past a c
+    by_core (Same _ e) =
+        let group : 0 ≡ a = some-inj 0 a (sym inside ∙ subst (λ i. within two_cores past i ≡ Some a) (sym e) h) in
+        subst (λ i. HoldsAlone two_cores past i c) group
+        (subst (λ i. HoldsAlone two_cores past 0 i) e (record { holder = holds; alone = λ d i. alone d i (compared 0 d) }))
+    by_core (Other f _) = absurd (none-some a (sym (outside c f) ∙ h))
+
+-- a start that leaves a generation out
+
+received-allowed : AllAllowed two_cores ten_receives one_received
+received-allowed =
+    comes tt (Asks (Ask.End (Some zero_cells)) refl refl)
     also comes tt (Asks (Ask.Free 131072) refl refl)
     also comes tt refl
     also comes tt (Takes 0 refl refl)
@@ -265,6 +313,50 @@ given-allowed =
     also comes tt (Boots refl refl refl)
     also tt
 
+head-same : (x y : Item) (xs ys : List Item) → x ∷ xs ≡ y ∷ ys → x ≡ y
+head-same x y xs ys e = cc
+
+skip-wrong : Allowed two_cores ten_receives one_received second_start → ⊥
+skip-wrong allowed =
+    let m = allowed-moment two_cores ten_receives one_received second_start received-allowed allowed in
+    let first : item_of 65537 ≡ m.item = head-same (item_of 65537) m.item [] m.rest m.taken in
+    let next : 196609 ≡ 131073 = ap (λ (v : Event). v.handle.0) (m.event ∙ ap (item_again one_received) (sym first)) in absurd (omega (arith, next))
+
+abbrev skipped_history : Past
+skipped_history = second_start ∷ one_received
+
+skipped-starts : Obeys StartsInOrderLaw two_cores skipped_history
+skipped-starts q c = by_queue (compared 0 q)
+  where
+    by_queue : Compared 0 q → starts two_cores skipped_history q c ≡ take (length (starts two_cores skipped_history q c)) (map shown_item (arrivals two_cores skipped_history q c))
+    by_queue (Same _ e) = subst (λ i. starts two_cores skipped_history i c ≡ take (length (starts two_cores skipped_history i c)) (map shown_item (arrivals two_cores skipped_history i c))) e refl
+    by_queue (Other f _) = rw f refl
+
+pub start-skips : BreaksOnly two_cores ten_receives StartsNextLaw [] second_start one_received
+start-skips = record {
+  before = record { each = received-allowed; whole = refl };
+  wrong = skip-wrong;
+  after = tt;
+  whole = refl;
+  broken = λ law. let next : 196609 ≡ 131073 = law.0 in absurd (omega (arith, next));
+  others = but StartsNextLaw skipped_history (λ _. stop-obeyed two_cores skipped_history refl) (λ _. group-obeyed two_cores skipped_history refl)
+      (λ _. (zero-holds skipped_history refl refl (λ c f. rw f refl) (λ c f. rw f refl), exclusive two_cores ten_receives one_received received-allowed))
+      (λ _. refl also refl also tt)
+      (λ _. tt also tt also tt also tt also tt also tt also stands-between (item_of 65536 ∷ []) [] refl (λ c. refl) also tt
+      also stands-between [] (item_of 65537 ∷ []) refl (λ c. refl) also tt also tt also tt)
+      (λ _. skipped-starts) (λ own. absurd (own refl)) (λ _ g a. omega arith);
+  unlawful = not-lawful two_cores ten_receives [] second_start one_received skip-wrong;
+}
+
+-- an event that is started twice after it was given back
+
+given-allowed : AllAllowed two_cores ten_receives given_back
+given-allowed =
+    comes tt refl
+    also comes tt (Takes 0 refl refl)
+    also comes tt (Untakes 0 _ _ refl refl refl refl)
+    also received-allowed
+
 start-wrong : Allowed two_cores ten_receives given_back second_start → ⊥
 start-wrong allowed =
     let m = allowed-moment two_cores ten_receives given_back second_start given-allowed allowed in absurd (cc m.taken)
@@ -272,33 +364,75 @@ start-wrong allowed =
 abbrev started_history : Past
 started_history = second_start ∷ given_back
 
--- core 0 alone is in the atomic group, and holds it
-started-holder : OnlyHolder two_cores started_history
-started-holder a c h = by_core (compared 0 c)
-  where
-    alone : (d : ℕ) → has_open_take two_cores started_history 0 d ≡ true → Compared 0 d → d ≡ 0
-    alone d opened (Same _ e) = sym e
-    alone d opened (Other f _) = absurd (cc (rw f at opened))
-
-    by_core : Compared 0 c → HoldsAlone two_cores started_history a c
-    by_core (Same _ e) =
-        let here : within two_cores started_history 0 ≡ Some a = subst (λ i. within two_cores started_history i ≡ Some a) (sym e) h in
-        let group : 0 ≡ a = some-inj 0 a here in
-        subst (λ i. HoldsAlone two_cores started_history i c) group
-        (subst (λ i. HoldsAlone two_cores started_history 0 i) e (record { holder = refl; alone = λ d i. alone d i (compared 0 d) }))
-    by_core (Other f _) = let none : None ≡ Some a = rw f at h in absurd (none-some a none)
-
-pub starts-twice : BreaksOnly two_cores ten_receives OnceLaw [] second_start given_back
+pub starts-twice : BreaksOnly two_cores ten_receives StartsInOrderLaw [] second_start given_back
 starts-twice = record {
   before = record { each = given-allowed; whole = refl };
   wrong = start-wrong;
   after = tt;
   whole = refl;
-  broken = λ law. absurd (cc (law.started 0 0));
-  others = (
-    stop-obeyed two_cores started_history refl,
-    group-obeyed two_cores started_history refl,
-    (started-holder, exclusive two_cores ten_receives given_back given-allowed),
-  );
+  broken = λ law. absurd (cc (law 0 0));
+  others = but StartsInOrderLaw started_history (λ _. stop-obeyed two_cores started_history refl) (λ _. group-obeyed two_cores started_history refl)
+      (λ _. (zero-holds started_history refl refl (λ c f. rw f refl) (λ c f. rw f refl), exclusive two_cores ten_receives given_back given-allowed))
+      (λ _. refl also refl also tt)
+      (λ _. tt also tt also tt also tt also tt also tt also tt also tt also tt also stands-between (item_of 65536 ∷ []) [] refl (λ c. refl) also tt
+      also stands-between [] (item_of 65537 ∷ []) refl (λ c. refl) also tt also tt also tt)
+      (λ own. absurd (own refl))
+      (λ _. refl also refl also tt also tt also tt also tt also refl also tt also tt also tt also tt also tt also tt also tt also tt)
+      (λ _ g a. omega arith);
   unlawful = not-lawful two_cores ten_receives [] second_start given_back start-wrong;
+}
+
+-- a handle that is sent twice
+
+sent-allowed : AllAllowed two_cores ten_receives one_sent
+sent-allowed =
+    comes tt (Asks (Ask.Send 65536 (queue 2) None) refl refl)
+    also comes tt (Asks (Ask.Alloc (record { 0 = 0 }) 7 []) refl refl)
+    also comes tt (Boots refl refl refl)
+    also tt
+
+second-send-wrong : Allowed two_cores ten_receives one_sent second_send → ⊥
+second-send-wrong allowed =
+    let m = allowed-moment two_cores ten_receives one_sent second_send sent-allowed allowed in absurd (cc m.rule)
+
+abbrev twice_history : Past
+twice_history = boot_ends ++ second_send ∷ one_sent
+
+pub sends-twice : BreaksOnly two_cores ten_receives EntersOnceLaw boot_ends second_send one_sent
+sends-twice = record {
+  before = record { each = sent-allowed; whole = refl };
+  wrong = second-send-wrong;
+  after = comes tt (Asks (Ask.End None) refl refl) also tt;
+  whole = refl;
+  broken = λ law. absurd (cc law.0);
+  others = but EntersOnceLaw twice_history (λ _. stop-obeyed two_cores twice_history refl) (λ _. group-obeyed two_cores twice_history refl)
+      (λ _. atomic-obeyed two_cores twice_history refl) (λ own. absurd (own refl))
+      (λ _. tt also stands-between [] (item_of 65536 ∷ []) refl (λ c. refl) also stands-between [] (item_of 65536 ∷ []) refl (λ c. refl) also tt also tt also tt)
+      (λ _ q c. refl) (λ _. tt also tt also tt also tt also tt also tt) (λ _ g a. omega arith);
+  unlawful = not-lawful two_cores ten_receives boot_ends second_send one_sent second-send-wrong;
+}
+
+-- a send of what was never minted
+
+boot-allowed : AllAllowed two_cores ten_receives only_boot
+boot-allowed = comes tt (Boots refl refl refl) also tt
+
+unminted-wrong : Allowed two_cores ten_receives only_boot second_send → ⊥
+unminted-wrong allowed =
+    let m = allowed-moment two_cores ten_receives only_boot second_send boot-allowed allowed in absurd (cc m.rule)
+
+abbrev unminted_history : Past
+unminted_history = boot_ends ++ second_send ∷ only_boot
+
+pub sends-unminted : BreaksOnly two_cores ten_receives EntersInTurnLaw boot_ends second_send only_boot
+sends-unminted = record {
+  before = record { each = boot-allowed; whole = refl };
+  wrong = unminted-wrong;
+  after = comes tt (Asks (Ask.End None) refl refl) also tt;
+  whole = refl;
+  broken = λ law. absurd (cc law.1.0.turn);
+  others = but EntersInTurnLaw unminted_history (λ _. stop-obeyed two_cores unminted_history refl) (λ _. group-obeyed two_cores unminted_history refl)
+      (λ _. atomic-obeyed two_cores unminted_history refl) (λ _. tt) (λ own. absurd (own refl)) (λ _ q c. refl)
+      (λ _. tt also tt also tt also tt) (λ _ g a. omega arith);
+  unlawful = not-lawful two_cores ten_receives boot_ends second_send only_boot unminted-wrong;
 }

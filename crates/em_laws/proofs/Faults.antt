@@ -1,5 +1,5 @@
 -- A fault leaves everything as it was.
-use Rattle.std.proofs.Common.{◌≡◌, ℕ, ◌+◌, ◌==◌, Bool, true, false, List, [], ◌∷◌, length, Option, Some, None, refl, ◌∙◌, ap, if◌then◌else◌}
+use Rattle.std.proofs.Common.{◌≡◌, ℕ, ◌+◌, ◌==◌, Bool, true, false, ◌&&◌, ◌||◌, List, [], ◌∷◌, length, Option, Some, None, refl, ◌∙◌, ap, if◌then◌else◌}
 use Rattle.std.specs.List.{find}
 use Rattle.std.specs.Option.{option_or, option_map_or}
 use Rattle.em_log.specs.declared.declarations.Declarations.{Declarations}
@@ -13,8 +13,9 @@ use Rattle.em_log.specs.Declarations.{below, kind_of, is_output}
 use Rattle.em_log.specs.Contexts.{context}
 use Rattle.em_log.specs.Handles.{Minting, Spending, held, with_minted, last_handle, minting, spending}
 use Rattle.em_log.specs.Operations.{done, owed_to, first_owed, operations}
+use Rattle.em_log.specs.Tails.{failed_after, has_failed}
 use Rattle.em_log.specs.Places.{Free, Taken, Waiting, Lost, Delayed, taken, taken_by_all, started, has_item, has_entered, taker, entered_place, note_queue, completed_place, application_end, noted_place, place_after, place_of, place_by}
-use Rattle.em_laws.specs.Unchanged.{IsUnchanged}
+use Rattle.em_laws.specs.Unchanged.{IsUnchanged, IsRefusal, is_fail}
 use Rattle.em_laws.proofs.Cores.{if-same}
 
 find-same : (p r : ℕ → Bool) (xs : List ℕ) → ((x : ℕ) → p x ≡ r x) → find p xs ≡ find r xs
@@ -80,7 +81,7 @@ place_by-same k past d asked f s None = refl
 place_by-same k past d asked f s (Some h) = place_of-same k past d asked f s h (minting past h) (spending past h)
 
 -- a fault leaves everything as it was
-pub fault-unchanged : (k : Declarations) (past : Past) (d : ℕ) (asked : Call) (f : Fault) (s : Option EoId) → IsUnchanged k past (entry_by d (What.Fault asked f s) ∷ past)
+fault-unchanged : (k : Declarations) (past : Past) (d : ℕ) (asked : Call) (f : Fault) (s : Option EoId) → IsUnchanged k past (entry_by d (What.Fault asked f s) ∷ past)
 fault-unchanged k past d asked f s = record {
   place = λ i. place_by-same k past d asked f s (last_handle past i);
   generation = λ i. refl;
@@ -104,6 +105,9 @@ fault-unchanged k past d asked f s = record {
   closed = λ q. refl;
   operation = λ n. refl;
   done = λ n. refl;
+  global_done = λ n. refl;
+  acked = λ n. refl;
+  last_acker = λ n. refl;
   step = λ c. first-same k (WithFault past d asked f s) past c (below (operations past)) (λ n. refl);
   busy = λ g. refl;
   applications = λ g. refl;
@@ -112,3 +116,15 @@ fault-unchanged k past d asked f s = record {
   count = λ g. refl;
   open_stamp = λ c. if-same (d == c) _;
 }
+
+failed-by : (asked : Call) (f : Fault) (s : Option EoId) (was : Bool) → failed_after (What.Fault asked f s) was ≡ (is_fail f || was)
+failed-by asked (Fault.StartFailed op) s was = refl
+failed-by asked f s was = refl
+
+-- and only that of a `fail` makes a global start fail
+pub fault-refuses : (k : Declarations) (past : Past) (d : ℕ) (asked : Call) (f : Fault) (s : Option EoId) → IsRefusal k past d f (entry_by d (What.Fault asked f s) ∷ past)
+fault-refuses k past d asked f s = record { unchanged = fault-unchanged k past d asked f s; failed = λ c. by_core c (d == c) }
+  where
+    by_core : (c : ℕ) (b : Bool) → (if b then failed_after (What.Fault asked f s) (has_failed past c) else has_failed past c) ≡ ((b && is_fail f) || has_failed past c)
+    by_core c true = failed-by asked f s (has_failed past c)
+    by_core c false = refl

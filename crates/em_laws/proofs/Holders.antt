@@ -17,7 +17,7 @@ use Rattle.em_moments.proofs.Asked.{is_none-none}
 use Rattle.em_moments.proofs.Choices.{IsReady}
 use Rattle.em_moments.proofs.Steps.{is_number-some}
 use Rattle.em_moments.proofs.Moments.{Moment, allowed-moment}
-use Rattle.em_laws.proofs.Cores.{Compared, Same, Other, compared, eqb-eq, none-some, some-inj, find-below, find-none}
+use Rattle.em_laws.proofs.Cores.{Compared, Same, Other, compared, none-some, some-inj, find-below, find-none}
 use Rattle.em_laws.proofs.Served.{drop-some, cons-some}
 
 -- what holds of the open takes after each entry

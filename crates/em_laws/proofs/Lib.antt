@@ -11,6 +11,7 @@ pub mod Changed
 pub mod Faults
 pub mod Blocks
 pub mod Fresh
+pub mod Usable
 pub mod Notified
 pub mod Single
 pub mod Lists

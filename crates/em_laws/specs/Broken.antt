@@ -1,5 +1,5 @@
 -- For each law a short history that breaks it by one wrong entry.
-use Rattle.std.specs.Prelude.{ℕ, ◌≡◌, true, List, [], ◌∷◌, ◌++◌, Some, None, replicate}
+use Rattle.std.specs.Prelude.{ℕ, ◌≡◌, ◌≢◌, ◌≤◌, true, List, [], ◌∷◌, ◌++◌, length, map, take, Some, None, replicate}
 use Rattle.em_log.specs.declared.declarations.Declarations.{Declarations}
 use Rattle.em_log.specs.declared.declarations.QueueShape.{QueueShape}
 use Rattle.em_log.specs.declared.entry.Entry.{Entry}
@@ -17,33 +17,36 @@ use Rattle.em_log.specs.declared.ids.OpId.{OpId}
 use Rattle.em_log.specs.declared.ids.Stamp.{Stamp}
 use Rattle.em_log.specs.declared.ids.EventGroupId.{EventGroupId}
 use Rattle.em_log.specs.History.{Past, entry_by}
+use Rattle.em_log.specs.Arrivals.{arrivals}
 use Rattle.em_log.specs.Lawful.{Allowed, Lawful, due}
-use Rattle.em_log.specs.Laws.{StopQuiet, GroupQuiet, Exclusive, Once}
+use Rattle.em_log.specs.Laws.{StopQuiet, GroupQuiet, Exclusive, Each, AreDifferent, entered_in_all, EntersInTurn, shown_item, starts, StartsNext, notifies}
 
 -- each of these entries, the newest first, is allowed where it stands
 abbrev pub EachAllowed : Declarations → Limits → Past → List Entry → Type 0
 EachAllowed k l past [] = Unit {0}
 EachAllowed k l past (e ∷ es) = Allowed k l (es ++ past) e × EachAllowed k l past es
 
--- the four laws by name
+-- the laws by name, that of each event once by its parts
 pub data LawName : Type 0 where
   StopLaw : LawName
   GroupLaw : LawName
   AtomicLaw : LawName
-  OnceLaw : LawName
+  EntersOnceLaw : LawName
+  EntersInTurnLaw : LawName
+  StartsInOrderLaw : LawName
+  StartsNextLaw : LawName
+  NotifiesOnceLaw : LawName
 
 abbrev pub Obeys : LawName → Declarations → Past → Type 0
 Obeys StopLaw k past = StopQuiet k past
 Obeys GroupLaw k past = GroupQuiet k past
 Obeys AtomicLaw k past = Exclusive k past
-Obeys OnceLaw k past = Once k past
-
--- the other three
-abbrev pub ObeysOthers : LawName → Declarations → Past → Type 0
-ObeysOthers StopLaw k past = GroupQuiet k past × Exclusive k past × Once k past
-ObeysOthers GroupLaw k past = StopQuiet k past × Exclusive k past × Once k past
-ObeysOthers AtomicLaw k past = StopQuiet k past × GroupQuiet k past × Once k past
-ObeysOthers OnceLaw k past = StopQuiet k past × GroupQuiet k past × Exclusive k past
+Obeys EntersOnceLaw k past = AreDifferent (entered_in_all k past)
+Obeys EntersInTurnLaw k past = Each (EntersInTurn k past) past
+Obeys StartsInOrderLaw k past =
+    (q c : ℕ) → starts k past q c ≡ take (length (starts k past q c)) (map shown_item (arrivals k past q c))
+Obeys StartsNextLaw k past = Each StartsNext past
+Obeys NotifiesOnceLaw k past = (g a : ℕ) → notifies past g a ≤ 1
 
 -- the entry is the only wrong one of the history, and by it the history breaks this law and no other
 pub record BreaksOnly (k : Declarations) (l : Limits) (law : LawName) (later : List Entry) (entry : Entry) (past : Past) : Type 0 where
@@ -52,7 +55,7 @@ pub record BreaksOnly (k : Declarations) (l : Limits) (law : LawName) (later : L
   pub after : EachAllowed k l (entry ∷ past) later
   pub whole : due k (later ++ entry ∷ past) ≡ []
   pub broken : Obeys law k (later ++ entry ∷ past) → ⊥
-  pub others : ObeysOthers law k (later ++ entry ∷ past)
+  pub others : (other : LawName) → other ≢ law → Obeys other k (later ++ entry ∷ past)
   pub unlawful : Lawful k l (later ++ entry ∷ past) → ⊥
 
 -- two cores and one object that runs; queues 0 and 1 share an atomic group, and queue 2 is parallel in queue group 1
@@ -203,7 +206,16 @@ second_notification = entry_by 0 (What.Notify egroup 1)
 abbrev pub no_more : List Entry
 no_more = []
 
--- an event that is started twice after it was given back
+-- a start of an event that was given back, or that was never started
+
+-- core 0 takes two events, and its receive of the first ends
+abbrev pub one_received : Past
+one_received =
+    entry_by 0 (What.End 0 (Some zero_cells))
+    ∷ entry_by 0 (What.Free (handle 131072))
+    ∷ entry_by 0 (What.Start (queue 0) (event 131072) None)
+    ∷ entry_by 0 (What.Take (queue 0) 2 None)
+    ∷ two_sent 0 0
 
 -- core 0 takes two events, starts the first, gives the second back, and takes and starts it again
 abbrev pub given_back : Past
@@ -211,11 +223,27 @@ given_back =
     entry_by 0 (What.Start (queue 0) (event 131073) None)
     ∷ entry_by 0 (What.Take (queue 0) 1 None)
     ∷ entry_by 0 (What.Untake (queue 0) 1)
-    ∷ entry_by 0 (What.End 0 (Some zero_cells))
-    ∷ entry_by 0 (What.Free (handle 131072))
-    ∷ entry_by 0 (What.Start (queue 0) (event 131072) None)
-    ∷ entry_by 0 (What.Take (queue 0) 2 None)
-    ∷ two_sent 0 0
+    ∷ one_received
 
 abbrev pub second_start : Entry
 second_start = entry_by 0 (What.Start (queue 0) (event 196609) None)
+
+-- a handle that is sent twice
+
+-- boot sends an event
+abbrev pub one_sent : Past
+one_sent =
+    entry_by 0 (What.Send (handle 65536) (queue 2) None None)
+    ∷ entry_by 0 (What.Alloc (record { 0 = 0 }) (event 65536))
+    ∷ entry_by 0 (What.Enter Body.Boot) ∷ []
+
+abbrev pub second_send : Entry
+second_send = entry_by 0 (What.Send (handle 65536) (queue 2) None None)
+
+abbrev pub boot_ends : List Entry
+boot_ends = entry_by 0 (What.End 0 None) ∷ []
+
+-- a send of what was never minted
+
+abbrev pub only_boot : Past
+only_boot = entry_by 0 (What.Enter Body.Boot) ∷ []

@@ -15,7 +15,7 @@ ghost use Rattle.em_log.specs.Tails.{tail};
 ghost use Rattle.em_log.specs.Lawful.{Begins, AllAllowed, Lawful, due};
 ghost use Rattle.em_log.specs.Laws.{AreDifferent};
 ghost use Rattle.em_laws.specs.Minted.{minted, HasSmallIndices};
-ghost use Rattle.em_laws.specs.Unchanged.{IsUnchanged};
+ghost use Rattle.em_laws.specs.Unchanged.{IsRefusal};
 
 /// No handle is minted twice, where the indices of all events are below 65,536.
 pub fn minted_once()
@@ -28,10 +28,11 @@ pub fn minted_once_of_graph()
         → AreDifferent (minted past) }
 {}
 
-/// A refusal changes no part: every place, arrival, holder, state, mask, owed step and count stands as before it.
+/// A refusal changes no part: every place, arrival, holder, state, mask, owed step and count stands as before it, and no
+/// refusal but that of a `fail` makes a global start fail.
 pub fn fault_changes_nothing()
     ensures { (k : Declarations) (past : Past) (c : ℕ) (call : Call) (fault : Fault) (scope : Option EoId)
-        → IsUnchanged k past (entry_by c (What.Fault call fault scope) ∷ past) }
+        → IsRefusal k past c fault (entry_by c (What.Fault call fault scope) ∷ past) }
 {}
 
 /// What is due after allowed entries may be appended, one entry after another, and then nothing is due.

@@ -3,6 +3,7 @@
 
 pub mod broken;
 pub mod expected;
+pub mod holdings;
 
 ghost use Rattle.em_log.specs.declared.declarations.Declarations.{Declarations};
 ghost use Rattle.em_log.specs.declared.ids.Limits.{Limits};

@@ -1,5 +1,5 @@
 -- The facts of an entry's moment, by its kind: what each entry of a lawful history says of the history before it.
-use Rattle.std.proofs.Common.{◌≡◌, ◌⊎◌, inl, inr, ℕ, suc, ◌+◌, ◌<◌, ◌==◌, Bool, true, false, not, List, [], ◌∷◌, length, Option, Some, None, refl, sym, ◌∙◌, subst, ap}
+use Rattle.std.proofs.Common.{◌≡◌, ℕ, suc, ◌+◌, ◌==◌, Bool, true, false, not, List, [], ◌∷◌, length, Option, Some, None, refl, sym, ◌∙◌, subst, ap}
 use Rattle.std.specs.Prelude.{IsTrue, nat_lt}
 use Rattle.em_log.specs.declared.declarations.Declarations.{Declarations}
 use Rattle.em_log.specs.declared.ask.Ask.{Ask}
@@ -29,7 +29,7 @@ use Rattle.em_log.specs.Places.{waiting, taken, first_free}
 use Rattle.em_log.specs.Atomic.{holds}
 use Rattle.em_log.specs.Eligible.{is_choice, take_size, ticket_drawn}
 use Rattle.em_log.specs.EventGroups.{applications, busy, is_current, total, members, count, open_stamp}
-use Rattle.em_log.specs.Leads.{event_with, item_again, stamp_now, open_number, dequeued, claimed, notes_refusal, count_refusal, increment_refusal, aims_at_object, aims_at_group, operations_fault, mask_fault, call_of, refusal, scope}
+use Rattle.em_log.specs.Leads.{item_again, stamp_now, open_number, dequeued, claimed, notes_refusal, count_refusal, increment_refusal, aims_at_object, aims_at_group, operations_fault, mask_fault, call_of, refusal, scope}
 use Rattle.em_log.specs.Tails.{has_failed}
 use Rattle.em_log.specs.Lawful.{may_ask, Allowed, AllAllowed}
 use Rattle.em_moments.proofs.Asked.{Asked, Refused, Allocs, Frees, Sends, SendsIn, Keeps, Claims, Dequeues, Says, Enables, Disables, EndsAtomic, EndsOrdered, EndsGroup, Applies, Increments, Aborts, BeginsStart, BeginsStop, BeginsModify, Ends, asks-open}
