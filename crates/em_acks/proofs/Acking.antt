@@ -13,29 +13,20 @@ use Rattle.em_acks.specs.declared.job.Phase.{Phase}
 use Rattle.em_acks.specs.declared.unfinished.Owing.{Owing}
 use Rattle.em_acks.specs.declared.unfinished.Unfinished.{Unfinished}
 use Rattle.em_acks.specs.Steps.{AckStep, Acknowledged}
-use Rattle.em_acks.specs.Operations.{Operation, operations, operation, global_done, all_acked, not_acked, last_acker, only_if, left_after}
-use Rattle.em_acks.specs.State.{AckState, owed_in, owed_at}
+use Rattle.em_acks.specs.Operations.{Operation, operations, operation, global_done, all_acked, not_acked, last_acker, left_after}
+use Rattle.em_acks.specs.State.{AckState, owed_at}
 use Rattle.em_acks.specs.Stands.{Stands, unfinished_as, unfinished_at}
 use Rattle.em_acks.specs.Changes.{acked_by, with_owing, owing_acked, owing_left, left_in, left_at}
 use Rattle.em_acks.proofs.Acked.{is_nil, last-none, last-some, last-other, acked-other, all-same, not_acked-same}
 use Rattle.em_acks.proofs.Numbers.{with-from}
-use Rattle.em_acks.proofs.Reading.{numbered, begun-before, find-is}
-
-abbrev pub with_next : (Unfinished → Option Owing) → Option Unfinished → Option Unfinished
-with_next next o = option_and_then (λ (u : Unfinished). option_map (λ owing. record u { owing = owing }) (next u)) o
-
-abbrev pub owed_of : ℕ → Option Unfinished → Option Phase
-owed_of c o = option_and_then (λ (u : Unfinished). owed_in c u.owing) o
+use Rattle.em_acks.proofs.Reading.{numbered, find-is}
+use Rattle.em_acks.proofs.OwedSteps.{kept_as, with_next, owed_of, only-not, owes-kept, operation-begun, owes-as, is-begun}
 
 -- an operation by what its steps tell of it
 
 module _ (n c : ℕ) (b : ℕ) (t : Target) where
   abbrev acks : Unfinished → Option Owing
   acks u = owing_acked c u.job u.owing
-
-  only-not : (x : Bool) (p q : Phase) {P : Type 0} → (p ≡ q → ⊥) → only_if x p ≡ Some q → P
-  only-not true p q ne is = absurd (ne (cc is))
-  only-not false p q ne is = absurd (cc is)
 
   global_local : Phase.Global ≡ Phase.Local → ⊥
   global_local e = cc e
@@ -103,24 +94,17 @@ module _ {v : AckState} {s : List AckStep} (stands : Stands v s) (c n : ℕ) (wi
   abbrev steps : List AckStep
   steps = Acknowledged c n ∷ s
 
-  abbrev kept_as : ℕ → Option Operation → Option Unfinished
-  kept_as m o = option_and_then (unfinished_as m (all_acked v.cores s m) (not_acked v.cores s m) (last_acker v.cores s m) (global_done s m)) o
+  owes_kept : owed_of c (kept_as v.cores s n (operation s n)) ≡ Some Phase.Local
+  owes_kept = owes-kept stands c n Phase.Local owes
 
-  owes_kept : owed_of c (kept_as n (operation s n)) ≡ Some Phase.Local
-  owes_kept = sym (ap (owed_of c) (find-is stands n)) ∙ owes
+  abbrev begun : (p : Operation) × (operation s n ≡ Some p)
+  begun = operation-begun stands c n Phase.Local owes
 
-  the_operation : (o : Option Operation) → owed_of c (kept_as n o) ≡ Some Phase.Local → (p : Operation) × (o ≡ Some p)
-  the_operation None owed = absurd (cc owed)
-  the_operation (Some p) owed = (p, refl)
-
-  begun : (p : Operation) × (operation s n ≡ Some p)
-  begun = the_operation (operation s n) owes_kept
-
-  owes_as : owed_of c (kept_as n (Some begun.0)) ≡ Some Phase.Local
-  owes_as = subst (λ o. owed_of c (kept_as n o) ≡ Some Phase.Local) begun.1 owes_kept
+  owes_as : owed_of c (kept_as v.cores s n (Some begun.0)) ≡ Some Phase.Local
+  owes_as = owes-as stands c n Phase.Local owes
 
   is_begun : n < operations s
-  is_begun = begun-before s n begun.0 begun.1
+  is_begun = is-begun stands c n Phase.Local owes
 
   kept-other : (m : ℕ) → n ≢ m → unfinished_at v.cores steps m ≡ unfinished_at v.cores s m
   kept-other m ne =
@@ -140,7 +124,7 @@ module _ {v : AckState} {s : List AckStep} (stands : Stands v s) (c n : ℕ) (wi
       (unfinished_as n (all-same v.cores s n c i) (not_acked-same v.cores s n c i) (last-same i) (global_done s n)) (begun.1 i))
       ∙ (ack-as n c begun.0.core begun.0.target begun.0.job (global_done s n) (all_acked v.cores s n) (not_acked v.cores s n) (last_acker v.cores s n)
       (last-none v.cores s n) (last-some v.cores (omega arith) s n) owes_as
-      ∙ sym (ap (λ o. with_next (λ u. owing_acked c u.job u.owing) (kept_as n o)) begun.1))
+      ∙ sym (ap (λ o. with_next (λ u. owing_acked c u.job u.owing) (kept_as v.cores s n o)) begun.1))
 
   pub acked-stands : Stands (acked_by v c n) steps
   acked-stands = record {
@@ -155,14 +139,14 @@ module _ {v : AckState} {s : List AckStep} (stands : Stands v s) (c n : ℕ) (wi
         ⊎_elim
         (λ e. absurd (started-as n c o.core o.target o.job (global_done s n) (all_acked v.cores s n) (not_acked v.cores s n) (last_acker v.cores s n) start
         (ap (global_done s) e ∙ none)
-        (subst (λ p. owed_of c (kept_as n p) ≡ Some Phase.Local) (ap (operation s) e ∙ is) owes_kept)))
+        (subst (λ p. owed_of c (kept_as v.cores s n p) ≡ Some Phase.Local) (ap (operation s) e ∙ is) owes_kept)))
         (λ ne. acked-other v.cores s n m c ne ∙ stands.unstarted m o is start none)
         (cases_eq n m);
   }
 
   pub acked-answer : left_at v c n ≡ left_after v.cores steps n
   acked-answer =
-      ap (λ o. left_in (option_and_then (λ (u : Unfinished). owing_acked c u.job u.owing) o)) (find-is stands n ∙ ap (kept_as n) begun.1)
+      ap (λ o. left_in (option_and_then (λ (u : Unfinished). owing_acked c u.job u.owing) o)) (find-is stands n ∙ ap (kept_as v.cores s n) begun.1)
       ∙ (answer-as n c begun.0.core begun.0.target begun.0.job (global_done s n) (all_acked v.cores s n) (not_acked v.cores s n) (last_acker v.cores s n)
       (last-some v.cores (omega arith) s n) owes_as
       ∙ sym (λ i. if all-same v.cores s n c i then Left.Last else Left.More (length (not_acked-same v.cores s n c i))))
