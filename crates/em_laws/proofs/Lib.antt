@@ -23,4 +23,5 @@ pub mod Entering
 pub mod Sends
 pub mod Events
 pub mod Untouched
+pub mod AllLaws
 pub mod BrokenHistories

@@ -1,3 +1,4 @@
 pub mod Minted
 pub mod Unchanged
 pub mod Broken
+pub mod AllLaws
