@@ -17,7 +17,8 @@ use Rattle.em_queues.specs.Sets.{contains, IsLeast}
 use Rattle.em_queues.specs.Steps.{QueueStep, lists}
 use Rattle.em_queues.specs.Best.{can_serve, IsNoneReady, IsBest}
 use Rattle.em_queues.specs.State.{QueueState, core_in, core_at, no_core, items_at, items_by}
-use Rattle.em_queues.specs.Waiting.{list_in, is_ranked, is_ready, rank_in, rank_or_lowest}
+use Rattle.em_queues.specs.Ready.{is_ranked}
+use Rattle.em_queues.specs.Waiting.{list_in, is_ready, rank_in, rank_or_lowest}
 use Rattle.em_queues.specs.Changes.{lesser_number}
 use Rattle.em_queues.specs.Stands.{Stands, declared_rank}
 

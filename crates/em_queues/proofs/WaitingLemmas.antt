@@ -1,16 +1,15 @@
 -- The sets of the queues in whose lists something waits stay exact.
-use Rattle.std.proofs.Common.{◌≡◌, ◌≢◌, ℕ, zero, suc, ◌%◌, ◌<◌, ◌≤◌, ◌==◌, ◌&&◌, nat_lt, Bool, true, false, List, [], ◌∷◌, length, map, get_or, set, if◌then◌else◌, Option, Some, None, IfSome, arith, refl, ap, sym, ◌∙◌, subst, ⊎_elim}
+use Rattle.std.proofs.Common.{◌≡◌, ◌≢◌, ℕ, zero, suc, ◌<◌, ◌≤◌, ◌==◌, ◌&&◌, nat_lt, Bool, true, false, List, [], ◌∷◌, length, map, get_or, set, if◌then◌else◌, Option, Some, None, IfSome, arith, refl, ap, sym, ◌∙◌, subst, ⊎_elim}
 use Rattle.std.proofs.lemmas.Bool.{cases_eq, eq-eqb, ne_eqb}
 use Rattle.std.proofs.lemmas.List.{get_or-set_same, get_or-set_other, get_or_read, length-set, length-map}
-use Rattle.std.proofs.lemmas.Nat.Bits.{bit_at-zero}
 use Rattle.em_log.specs.declared.ids.Kind.{Kind}
 use Rattle.em_log.specs.declared.graph.Priority.{Priority}
 use Rattle.em_log.specs.declared.graph.QueueDecl.{QueueDecl}
 use Rattle.em_queues.specs.declared.set.QueueSet.{QueueSet}
 use Rattle.em_queues.specs.declared.waiting.WaitingList.{WaitingList}
 use Rattle.em_queues.specs.declared.waiting.ListScope.{ListScope}
-use Rattle.em_queues.specs.Sets.{contains}
-use Rattle.em_queues.specs.Waiting.{no_list, list_in, with_items, is_ranked, is_ready, has_ready, AreIndexed, opened_list, rank_in, rank_or_lowest}
+use Rattle.em_queues.specs.Ready.{has_ready, is_ranked}
+use Rattle.em_queues.specs.Waiting.{no_list, list_in, with_items, is_ready, AreIndexed, opened_list, rank_in, rank_or_lowest}
 
 -- the set of the list's priority tells of queue q what is given, and no other set or queue has changed
 abbrev pub IsMarked : List QueueSet → List QueueSet → ℕ → Option ℕ → Bool → Type 0
@@ -103,15 +102,6 @@ opened-indexed scope ds ready few none = record {
       ∙ sym (ap (λ (xs : List ℕ). is_ranked r (list_in (map (opened_list scope) ds) q).rank && nat_lt 0 (length xs)) (opened-empty scope ds q)
       ∙ and_false (is_ranked r (list_in (map (opened_list scope) ds) q).rank));
 }
-
--- five sets with nothing in them
-pub none-ready : (s : QueueSet) → ((q : ℕ) → contains s q ≡ false) → (r q : ℕ) → has_ready (s ∷ s ∷ s ∷ s ∷ s ∷ []) r q ≡ false
-none-ready s none zero q = none q
-none-ready s none (suc zero) q = none q
-none-ready s none (suc (suc zero)) q = none q
-none-ready s none (suc (suc (suc zero))) q = none q
-none-ready s none (suc (suc (suc (suc zero)))) q = none q
-none-ready s none (suc (suc (suc (suc (suc r))))) q = ap (λ n. n == 1) (bit_at-zero (q % 64))
 
 -- as the code has it
 pub marked-from : {lists : List WaitingList} {old : List QueueSet} (new : List QueueSet) → AreIndexed lists old → (q i n : ℕ) (l : WaitingList) (xs : List ℕ)

@@ -1,5 +1,5 @@
 -- A list for each queue, and what can be read off them.
-use Rattle.std.specs.Prelude.{ℕ, ◌≡◌, ◌<◌, ◌≤◌, ◌==◌, ◌&&◌, nat_lt, Bool, false, List, [], length, slice_index_or, slice_set, Option, Some, None, IfSome}
+use Rattle.std.specs.Prelude.{ℕ, ◌≡◌, ◌<◌, ◌≤◌, ◌&&◌, nat_lt, Bool, List, [], length, slice_index_or, slice_set, Option, Some, None, IfSome}
 use Rattle.std.specs.Option.{option_map_or}
 use Rattle.em_log.specs.declared.ids.Kind.{Kind}
 use Rattle.em_log.specs.declared.graph.Priority.{Priority}
@@ -8,7 +8,7 @@ use Rattle.em_log.specs.Declarations.{rank}
 use Rattle.em_queues.specs.declared.set.QueueSet.{QueueSet}
 use Rattle.em_queues.specs.declared.waiting.WaitingList.{WaitingList}
 use Rattle.em_queues.specs.declared.waiting.ListScope.{ListScope}
-use Rattle.em_queues.specs.Sets.{contains}
+use Rattle.em_queues.specs.Ready.{is_ranked, has_ready}
 
 -- the list of a queue that is not there
 abbrev pub no_list : WaitingList
@@ -24,10 +24,6 @@ items_in lists q = (list_in lists q).items
 -- the same with other events in the list of queue q
 abbrev pub with_items : List WaitingList → ℕ → List ℕ → List WaitingList
 with_items lists q xs = slice_set lists q (record (list_in lists q) { items = xs })
-
-abbrev pub is_ranked : ℕ → Option ℕ → Bool
-is_ranked r None = false
-is_ranked r (Some s) = r == s
 
 -- whether cores take from this list at priority r, and something waits in it
 abbrev pub is_ready : ℕ → WaitingList → Bool
@@ -47,16 +43,6 @@ rank_in kind p scope = None
 
 abbrev pub opened_list : ListScope → QueueDecl → WaitingList
 opened_list scope d = record { rank = rank_in d.kind d.priority scope; items = [] }
-
--- the sets
-
--- a set with no queue
-abbrev pub no_queues : QueueSet
-no_queues = record { words = [] }
-
--- whether queue q is in the set of priority r
-abbrev pub has_ready : List QueueSet → ℕ → ℕ → Bool
-has_ready sets r q = contains (slice_index_or sets r no_queues) q
 
 -- the set of each priority has exactly the queues of that priority in whose lists something waits
 pub record AreIndexed (lists : List WaitingList) (ready : List QueueSet) : Type 0 where

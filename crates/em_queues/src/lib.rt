@@ -7,6 +7,7 @@ pub mod cores;
 mod index_list;
 pub mod laws;
 pub mod queues;
+mod ready;
 pub mod set;
 pub mod waiting;
 

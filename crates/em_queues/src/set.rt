@@ -1,9 +1,10 @@
 //! Sets of queues, as bits.
 ghost use Rattle.std.specs.Prelude.{◌≡◌, ℕ, ◌<◌, ◌==◌, ◌&&◌, true, false, if◌then◌else◌};
+ghost use Rattle.std.specs.Bool.{OnTrue};
 ghost use Rattle.std.specs.Option.{option_map};
 ghost use Rattle.em_queues.specs.Sets.{contains, IsLeast};
 
-use crate::bits::{lowest_common, with_bit};
+use crate::bits::{has_bit, lowest_common, with_bit};
 use em_log::QueueId;
 
 /// A set of queues with numbers below 256, the greatest number of queues: one bit for each.
@@ -53,7 +54,17 @@ impl QueueSet {
         requires { queue.0 < 256 }
         ensures { result ≡ contains self.now queue.0 }
     {
-        (self.words[usize::from(queue.0 / 64)] >> u32::from(queue.0 % 64)) & 1 == 1
+        has_bit(
+            self.words[usize::from(queue.0 / 64)],
+            u32::from(queue.0 % 64),
+        )
+    }
+
+    /// Whether no queue is in.
+    pub(crate) fn is_empty(&self) -> bool
+        ensures { OnTrue result ((q : ℕ) → contains self.now q ≡ false) }
+    {
+        *self == QueueSet::none()
     }
 
     /// The queue of the least number that is in both sets.

@@ -2,9 +2,10 @@
 ghost use Rattle.std.specs.Prelude.{◌≡◌, ℕ, ◌+◌, ◌^◌, ◌<◌, ◌≤◌, ◌==◌, ◌&&◌, [], ◌++◌, map, take, drop, length, slice_get, IfOk, IfSome, if◌then◌else◌};
 ghost use Rattle.std.specs.Option.{option_map};
 ghost use Rattle.em_queues.specs.Sets.{contains, IsLeast};
-ghost use Rattle.em_queues.specs.Waiting.{list_in, items_in, is_ready, is_ranked, has_ready, with_items, opened_list, rank_in, rank_or_lowest};
+ghost use Rattle.em_queues.specs.Waiting.{list_in, items_in, is_ready, with_items, opened_list, rank_in, rank_or_lowest};
 
 use crate::index_list::IndexList;
+use crate::ready::ReadySets;
 use crate::set::QueueSet;
 use em_log::{Kind, NoMemory, Priority, QueueDecl, QueueId};
 use std::alloc::Global;
@@ -23,7 +24,7 @@ pub struct WaitingList {
 #[derive(Drop)]
 pub struct WaitingLists {
     lists: Vec<WaitingList>,
-    ready: [QueueSet; 5],
+    ready: ReadySets,
 }
 
 impl Model for WaitingLists {
@@ -61,7 +62,7 @@ impl WaitingLists {
     {
         Ok(WaitingLists {
             lists: opened_lists(alloc, queues, scope)?,
-            ready: [QueueSet::none(); 5],
+            ready: ReadySets::none(),
         })
     }
 
@@ -90,7 +91,7 @@ impl WaitingLists {
     {
         let list = &mut self.lists[usize::from(queue.0)];
         list.items.append(items);
-        mark(&mut self.ready, queue, list.rank, list.items.len() > 0);
+        self.ready.mark(queue, list.rank, list.items.len() > 0);
     }
 
     /// Moves these events to the front of the queue's list.
@@ -103,7 +104,7 @@ impl WaitingLists {
         let list = &mut self.lists[usize::from(queue.0)];
         items.append(&mut list.items);
         swap(items, &mut list.items);
-        mark(&mut self.ready, queue, list.rank, list.items.len() > 0);
+        self.ready.mark(queue, list.rank, list.items.len() > 0);
     }
 
     /// Takes the first `n` out of the queue's list.
@@ -115,7 +116,7 @@ impl WaitingLists {
     {
         let list = &mut self.lists[usize::from(queue.0)];
         let first = list.items.take_first(n);
-        mark(&mut self.ready, queue, list.rank, list.items.len() > 0);
+        self.ready.mark(queue, list.rank, list.items.len() > 0);
         first
     }
 
@@ -124,7 +125,7 @@ impl WaitingLists {
         requires { rank < 5 }
         ensures { IsLeast (λ q. is_ready rank (list_in self.now q) && contains may.now q) (option_map (λ x. x.0) result) }
     {
-        self.ready[usize::from(rank)].first_common(may)
+        self.ready.first(rank, may)
     }
 }
 
@@ -147,17 +148,6 @@ fn opened_lists(
         });
     }
     Ok(lists)
-}
-
-/// Notes in the set of this priority, if there is one, whether something waits in the queue's list.
-fn mark(ready: &mut [QueueSet; 5], queue: QueueId, rank: Option<u8>, is_waiting: bool)
-    requires queue { queue.0 < 256 }
-    requires rank { IfSome rank (λ r. r < 5) }
-    ensures { (r q : ℕ) → has_ready ready.new r q ≡ (if is_ranked r rank && (q == queue.0) then is_waiting else has_ready ready.old r q) }
-{
-    if let Some(rank) = rank {
-        ready[usize::from(rank)].put(queue, is_waiting);
-    }
 }
 
 /// The priority of a queue as a number, where cores take from this list of it.
