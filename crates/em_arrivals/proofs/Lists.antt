@@ -1,5 +1,6 @@
 -- Lists of items and of what was sent, and what of it comes to the list of a queue.
 use Rattle.std.proofs.Common.{◌≡◌, ℕ, zero, suc, ◌+◌, ◌-◌, ◌≤◌, ◌==◌, Bool, true, false, ◌||◌, List, [], ◌∷◌, ◌++◌, length, take, drop, Option, Some, None, refl, sym, ◌∙◌, subst, ap, if◌then◌else◌, arith}
+use Rattle.std.proofs.lemmas.Bool.{or_right}
 use Rattle.std.proofs.lemmas.List.{append-nil, append_assoc, length-append, take-append-drop, length-take-le}
 use Rattle.std.proofs.Math.Seq.{drop-append_seam}
 use Rattle.em_log.specs.declared.declarations.Declarations.{Declarations}
@@ -10,14 +11,6 @@ use Rattle.em_log.specs.Places.{has_item}
 use Rattle.em_laws.proofs.Cores.{Compared, Same, Other, compared}
 use Rattle.em_log.specs.declared.ids.Stamp.{Stamp}
 use Rattle.em_log.specs.Handles.{Minting}
-
-pub or-left : (a b : Bool) → a ≡ true → (a || b) ≡ true
-or-left true b e = refl
-or-left false b e = absurd cc
-
-pub or-right : (a b : Bool) → b ≡ true → (a || b) ≡ true
-or-right true b e = refl
-or-right false b e = e
 
 pub has_item-left : (h : ℕ) (xs ys : List Item) → has_item xs h ≡ true → has_item (xs ++ ys) h ≡ true
 has_item-left h [] ys is = absurd cc
@@ -32,7 +25,7 @@ has_item-take h n xs is = subst (λ ys. has_item ys h ≡ true) (take-append-dro
 
 pub has_item-right : (h : ℕ) (xs ys : List Item) → has_item ys h ≡ true → has_item (xs ++ ys) h ≡ true
 has_item-right h [] ys is = is
-has_item-right h (x ∷ xs) ys is = or-right (x.handle == h) (has_item (xs ++ ys) h) (has_item-right h xs ys is)
+has_item-right h (x ∷ xs) ys is = or_right (x.handle == h) (has_item (xs ++ ys) h) (has_item-right h xs ys is)
 
 pub has_item-drop : (h n : ℕ) (xs : List Item) → has_item (drop n xs) h ≡ true → has_item xs h ≡ true
 has_item-drop h n xs is = subst (λ ys. has_item ys h ≡ true) (take-append-drop n xs) (has_item-right h (take n xs) (drop n xs) is)
@@ -46,7 +39,7 @@ in-either h [] ys is = InSecond is
 in-either h (x ∷ xs) ys is = by_test (x.handle == h) refl is (in-either h xs ys)
   where
     more : InEither h xs ys → InEither h (x ∷ xs) ys
-    more (InFirst f) = InFirst (or-right (x.handle == h) (has_item xs h) f)
+    more (InFirst f) = InFirst (or_right (x.handle == h) (has_item xs h) f)
     more (InSecond s) = InSecond s
 
     by_test : (b : Bool) → (x.handle == h) ≡ b → (b || has_item (xs ++ ys) h) ≡ true → (has_item (xs ++ ys) h ≡ true → InEither h xs ys) → InEither h (x ∷ xs) ys

@@ -1,4 +1,5 @@
 pub mod Sums
+pub mod Whats
 pub mod Lengths
 pub mod Payments
 pub mod Outputs

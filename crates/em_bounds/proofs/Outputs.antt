@@ -1,5 +1,6 @@
 -- Outputs and lost notes are no more than what was sent and handed in.
 use Rattle.std.proofs.Common.{◌≡◌, ℕ, suc, ◌+◌, ◌≤◌, ◌==◌, Bool, true, false, ◌&&◌, List, [], ◌∷◌, ◌++◌, length, map, Option, Some, None, refl, sym, ◌∙◌, subst, ap, if◌then◌else◌, arith}
+use Rattle.em_bounds.proofs.Whats.{whats, whats-by}
 use Rattle.std.proofs.lemmas.List.{length-map, length-append, append-nil, append_assoc}
 use Rattle.std.proofs.lemmas.Bool.{eq-eqb}
 use Rattle.em_log.specs.declared.declarations.Declarations.{Declarations}
@@ -15,7 +16,7 @@ use Rattle.em_log.specs.declared.ids.EventGroupId.{EventGroupId}
 use Rattle.em_log.specs.declared.ids.Note.{Note}
 use Rattle.em_log.specs.declared.ids.Stamp.{Stamp}
 use Rattle.em_log.specs.declared.ids.Cells.{Cells}
-use Rattle.em_log.specs.History.{Past, entry_by, entries_by, has, note_words}
+use Rattle.em_log.specs.History.{Past, entry_by, has, note_words}
 use Rattle.em_log.specs.Declarations.{kind_of, is_output}
 use Rattle.em_log.specs.Contexts.{context}
 use Rattle.em_log.specs.Handles.{Minting, minting, Spending, spends, spent_by, spending}
@@ -424,14 +425,6 @@ loosened-one w = omega arith
 
 -- what has come is enough for the outputs and lost notes so far, and for those due before a completion
 
-whats : List Entry → List What
-whats es = map (λ e. e.what) es
-
-whats-by : (d : ℕ) (ws : List What) → whats (entries_by d ws) ≡ ws
-unfolding whats
-whats-by d [] = refl
-whats-by d (w ∷ ws) = ap (λ xs. w ∷ xs) (whats-by d ws)
-
 record Enough (k : Declarations) (past : Past) (ds : List Entry) : Type 0 where
   few : total loosened past + front (whats ds) ≤ length (all_came k past)
   fits : Fits past (whats ds)
@@ -458,7 +451,6 @@ completes-room k past d (What.Notify g a) n is r = let same = length-map (applie
 completes-room k past d w n is r = absurd cc
 
 enough-follows : (k : Declarations) (past : Past) (d : Entry) (ds : List Entry) → Enough k past (d ∷ ds) → Enough k (d ∷ past) ds
-unfolding whats
 enough-follows k past d ds was = record { few = by_kind (is_loose d.what) refl (is_completion d.what) refl; fits = fits-kept past d.core.0 d.what (whats ds) was.fits.0 was.fits.2 }
   where
     sum : length (all_came k (d ∷ past)) ≡ length (coming k past d.core.0 d.what) + length (all_came k past)
@@ -481,14 +473,12 @@ enough-follows k past d ds was = record { few = by_kind (is_loose d.what) refl (
         let s = sum in omega (arith, few, none, s)
 
 enough-next : (k : Declarations) (l : Limits) (past : Past) (e : Entry) (ds : List Entry) → IsNext k l past ds e → Enough k past ds → Enough k (e ∷ past) (due_after ds (tail k past e))
-unfolding whats
 enough-next k l past e [] next was =
     let few : total loosened past + 0 ≤ length (all_came k past) = was.few in
     enough-begins k l past e next (omega (arith, few))
 enough-next k l past e (d ∷ ds) next was = subst (λ v. Enough k (v ∷ past) ds) (sym next) (enough-follows k past d ds was)
 
 enough : (k : Declarations) (l : Limits) (past : Past) → AllAllowed k l past → Enough k past (due k past)
-unfolding whats
 enough k l [] all = record { few = omega arith; fits = tt }
 enough k l (e ∷ past) all = enough-next k l past e (due k past) all.0.next (enough k l past all.1)
 

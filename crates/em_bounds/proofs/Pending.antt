@@ -1,5 +1,6 @@
 -- An operation that is pending while nothing is due is owed a step.
-use Rattle.std.proofs.Common.{◌≡◌, ◌⊎◌, inl, inr, ℕ, zero, suc, ◌+◌, ◌<◌, ◌==◌, Bool, true, false, ◌&&◌, ◌||◌, List, [], ◌∷◌, ◌++◌, map, Option, Some, None, refl, sym, ◌∙◌, subst, ap, if◌then◌else◌, arith}
+use Rattle.std.proofs.Common.{◌≡◌, ◌⊎◌, inl, inr, ℕ, zero, suc, ◌+◌, ◌<◌, ◌==◌, Bool, true, false, ◌&&◌, ◌||◌, List, [], ◌∷◌, ◌++◌, Option, Some, None, refl, sym, ◌∙◌, subst, ap, if◌then◌else◌, arith}
+use Rattle.em_bounds.proofs.Whats.{whats, whats-by}
 use Rattle.std.specs.List.{list_all, list_any}
 use Rattle.std.specs.Option.{option_and_then}
 use Rattle.std.proofs.lemmas.Bool.{eq-eqb}
@@ -180,17 +181,9 @@ tail-leaves k past d w stands = tt
 
 -- the entries that are due
 
-whats : List Entry → List What
-whats es = map (λ e. e.what) es
-
 AllDueLeave : Declarations → Past → List Entry → Type 0
 AllDueLeave k past [] = Unit {0}
 AllDueLeave k past (e ∷ es) = Leaves k (e ∷ past) e.what (whats es) × AllDueLeave k (e ∷ past) es
-
-whats-by : (d : ℕ) (ws : List What) → whats (entries_by d ws) ≡ ws
-unfolding whats
-whats-by d [] = refl
-whats-by d (w ∷ ws) = ap (λ xs. w ∷ xs) (whats-by d ws)
 
 due-leave-by : (k : Declarations) (past : Past) (d : ℕ) (ws : List What) → AllLeave k past d ws → AllDueLeave k past (entries_by d ws)
 unfolding AllDueLeave
@@ -245,7 +238,6 @@ leaves-next k l past e (d ∷ ds) next was = subst (λ v. Leaves k (v ∷ past) 
 -- a completion that is due stays due until it comes
 due-shift : (k : Declarations) (l : Limits) (past : Past) (e : Entry) (ds : List Entry) (n : ℕ) → IsNext k l past ds e → has_done n (whats ds) ≡ true
     → (is_done_of n e.what ≡ true) ⊎ (has_done n (whats (due_after ds (tail k past e))) ≡ true)
-unfolding whats
 due-shift k l past e [] n next is = absurd cc
 due-shift k l past e (d ∷ ds) n next is = by_test (is_done_of n d.what) refl is
   where

@@ -1,5 +1,6 @@
 -- Which spent handles have an event that is free again, before and after an entry.
-use Rattle.std.proofs.Common.{◌≡◌, ◌⊎◌, inl, inr, ℕ, Bool, true, false, ◌&&◌, ◌||◌, List, [], ◌∷◌, Option, Some, None, refl, subst}
+use Rattle.std.proofs.Common.{◌≡◌, ◌⊎◌, inl, inr, ℕ, Bool, true, false, ◌||◌, List, [], ◌∷◌, Option, Some, None, refl, subst}
+use Rattle.std.proofs.lemmas.Bool.{or_right, and_from}
 use Rattle.std.specs.List.{list_any}
 use Rattle.em_log.specs.declared.declarations.Declarations.{Declarations}
 use Rattle.em_log.specs.declared.entry.Entry.{Entry}
@@ -14,14 +15,10 @@ use Rattle.em_moments.proofs.Asked.{and-true}
 use Rattle.em_places.specs.Parked.{completed_free, noted_free, free_after}
 use Rattle.em_arrivals.proofs.Lists.{came, with-came, InEither, InFirst, InSecond, in-either}
 
-both-true : (a b : Bool) → a ≡ true → b ≡ true → (a && b) ≡ true
-both-true true b p q = q
-both-true false b p q = absurd cc
-
 completed-pull : (k : Declarations) (past now : Past) (h : ℕ) (q : Option ℕ) → ((q : ℕ) → has_entered k now h q ≡ true → has_entered k past h q ≡ true)
     → completed_free k now h q ≡ true → completed_free k past h q ≡ true
 completed-pull k past now h None pull free = absurd cc
-completed-pull k past now h (Some q) pull free = let b = and-true (has_entered k now h q) _ free in both-true _ _ (pull q b.0) b.1
+completed-pull k past now h (Some q) pull free = let b = and-true (has_entered k now h q) _ free in and_from _ _ (pull q b.0) b.1
 
 noted-pull : (k : Declarations) (past now : Past) (h : ℕ) (notes : List Note) (o r : Option Bool) → ((q : ℕ) → has_entered k now h q ≡ true → has_entered k past h q ≡ true) → o ≡ r
     → noted_free k now h notes o ≡ true → noted_free k past h notes r ≡ true
@@ -32,7 +29,7 @@ noted-pull k past now h notes (Some false) r pull same free = subst (λ v. noted
 pub free-pull : (k : Declarations) (past now : Past) (h : ℕ) (w : What) → ((q : ℕ) → has_entered k now h q ≡ true → has_entered k past h q ≡ true) → ((n : ℕ) → done now n ≡ done past n)
     → ((g a : ℕ) → application_end now g a ≡ application_end past g a) → free_after k now h w ≡ true → free_after k past h w ≡ true
 free-pull k past now h (What.Free f) pull dones apps free = refl
-free-pull k past now h (What.Send f q t s) pull dones apps free = let b = and-true (has_entered k now h q.0) _ free in both-true _ _ (pull q.0 b.0) b.1
+free-pull k past now h (What.Send f q t s) pull dones apps free = let b = and-true (has_entered k now h q.0) _ free in and_from _ _ (pull q.0 b.0) b.1
 free-pull k past now h (What.Begin op job notes) pull dones apps free = noted-pull k past now h notes (done now op.0) (done past op.0) pull (dones op.0) free
 free-pull k past now h (What.Apply g a n notes) pull dones apps free = noted-pull k past now h notes (application_end now g.0 a) (application_end past g.0 a) pull (apps g.0 a) free
 free-pull k past now h w pull dones apps free = absurd cc
@@ -43,10 +40,6 @@ pub data Enters (k : Declarations) (past : Past) (e : Entry) (h q : ℕ) : Type 
   EnteredBefore : has_entered k past h q ≡ true → Enters k past e h q
   CameNow : (c : ℕ) → has_item (came k past q c (entering k past e)) h ≡ true → Enters k past e h q
 
-or-more : (a b : Bool) → b ≡ true → (a || b) ≡ true
-or-more true b e = refl
-or-more false b e = e
-
 entered-in : (k : Declarations) (past : Past) (e : Entry) (h q : ℕ) (cs : List ℕ) → list_any (λ c. has_item (arrivals k (e ∷ past) q c) h) cs ≡ true
     → (list_any (λ c. has_item (arrivals k past q c) h) cs ≡ true) ⊎ ((c : ℕ) × (has_item (came k past q c (entering k past e)) h ≡ true))
 entered-in k past e h q [] is = absurd cc
@@ -54,7 +47,7 @@ entered-in k past e h q (c ∷ cs) is = by_test (has_item (arrivals k (e ∷ pas
   where
     later : (list_any (λ c. has_item (arrivals k past q c) h) cs ≡ true) ⊎ ((c : ℕ) × (has_item (came k past q c (entering k past e)) h ≡ true))
         → (list_any (λ c. has_item (arrivals k past q c) h) (c ∷ cs) ≡ true) ⊎ ((c : ℕ) × (has_item (came k past q c (entering k past e)) h ≡ true))
-    later (inl t) = inl (or-more (has_item (arrivals k past q c) h) _ t)
+    later (inl t) = inl (or_right (has_item (arrivals k past q c) h) _ t)
     later (inr t) = inr t
 
     by_either : InEither h (arrivals k past q c) (came k past q c (entering k past e))
@@ -91,7 +84,7 @@ completed-now k past e h w (Some q) free before = by_enters (enters-by k past e 
     b = and-true (has_entered k (e ∷ past) h q) (is_output (kind_of k q)) free
 
     by_enters : Enters k past e h q → FreeNow k past e h w
-    by_enters (EnteredBefore t) = before (both-true _ _ t b.1)
+    by_enters (EnteredBefore t) = before (and_from _ _ t b.1)
     by_enters (CameNow c t) = CameOut q c b.1 t
 
 pub noted-freed : (k : Declarations) (past : Past) (e : Entry) (h : ℕ) (w : What) (notes : List Note) (o r : Option Bool) → o ≡ r → noted_free k (e ∷ past) h notes o ≡ true

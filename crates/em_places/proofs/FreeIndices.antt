@@ -1,5 +1,6 @@
 -- An event that is free by the steps is free by the history.
-use Rattle.std.proofs.Common.{◌≡◌, ℕ, zero, suc, ◌+◌, ◌≤◌, ◌<◌, ◌==◌, Bool, true, false, not, ◌&&◌, ◌||◌, List, [], ◌∷◌, ◌++◌, length, map, take, Option, Some, None, refl, sym, ◌∙◌, subst, ap, is_none, if◌then◌else◌, arith}
+use Rattle.std.proofs.Common.{◌≡◌, ℕ, zero, suc, ◌+◌, ◌≤◌, ◌<◌, ◌==◌, Bool, true, false, not, ◌&&◌, ◌||◌, List, [], ◌∷◌, ◌++◌, length, map, take, Option, Some, None, refl, sym, ◌∙◌, subst, ap, if◌then◌else◌, arith}
+use Rattle.std.proofs.lemmas.Bool.{or_left, or_right, and_from}
 use Rattle.std.specs.List.{list_any}
 use Rattle.std.proofs.lemmas.Bool.{eq-eqb}
 use Rattle.em_log.specs.declared.declarations.Declarations.{Declarations}
@@ -49,24 +50,16 @@ use Rattle.em_arrivals.proofs.Lists.{came, with-came, AllSent, all-append, all-m
 
 -- what comes is in the lists
 
-or-left : (a b : Bool) → a ≡ true → (a || b) ≡ true
-or-left true b e = refl
-or-left false b e = absurd cc
-
-or-right : (a b : Bool) → b ≡ true → (a || b) ≡ true
-or-right true b e = refl
-or-right false b e = e
-
 any-from : (p : ℕ → Bool) (c a n : ℕ) → p c ≡ true → a ≤ c → c < a + n → list_any p (numbers_from a n) ≡ true
 any-from p c a zero is low high = absurd (omega arith)
 any-from p c a (suc n) is low high = by_test (compared a c) (any-from p c (suc a) n is)
   where
     by_test : Compared a c → (suc a ≤ c → c < suc a + n → list_any p (numbers_from (suc a) n) ≡ true) → list_any p (numbers_from a (suc n)) ≡ true
-    by_test (Same t e) later = or-left (p a) _ (ap p e ∙ is)
-    by_test (Other f ne) later = or-right (p a) _ (later (omega (arith, ne)) (omega arith))
+    by_test (Same t e) later = or_left (p a) _ (ap p e ∙ is)
+    by_test (Other f ne) later = or_right (p a) _ (later (omega (arith, ne)) (omega arith))
 
 own-list : (k : Declarations) (q d : ℕ) → is_for k q d q d ≡ true
-own-list k q d = rw (eq-eqb q q refl, eq-eqb d d refl) (or-right (not (is_local (kind_of k q))) true refl)
+own-list k q d = rw (eq-eqb q q refl, eq-eqb d d refl) (or_right (not (is_local (kind_of k q))) true refl)
 
 item-has : (past : Past) (s : Sent) (m : Minting) → minting past s.handle ≡ Some m → has_item (item past s) s.handle ≡ true
 item-has past s m is = rw is (rw (eq-eqb s.handle s.handle refl) refl)
@@ -103,8 +96,8 @@ entered-more k past e h q (c ∷ cs) is = by_test (has_item (arrivals k past q c
     by_test : (b : Bool) → has_item (arrivals k past q c) h ≡ b → (b || list_any (λ c. has_item (arrivals k past q c) h) cs) ≡ true
         → (list_any (λ c. has_item (arrivals k past q c) h) cs ≡ true → list_any (λ c. has_item (arrivals k (e ∷ past) q c) h) cs ≡ true) → list_any (λ c. has_item (arrivals k (e ∷ past) q c) h) (c ∷ cs) ≡ true
     by_test true at is later =
-        or-left _ _ (ap (λ xs. has_item xs h) (with-came k past q c (arrivals k past q c) (entering k past e)) ∙ has_item-left h (arrivals k past q c) (came k past q c (entering k past e)) at)
-    by_test false at is later = or-right (has_item (arrivals k (e ∷ past) q c) h) _ (later is)
+        or_left _ _ (ap (λ xs. has_item xs h) (with-came k past q c (arrivals k past q c) (entering k past e)) ∙ has_item-left h (arrivals k past q c) (came k past q c (entering k past e)) at)
+    by_test false at is later = or_right (has_item (arrivals k (e ∷ past) q c) h) _ (later is)
 
 pub entered-kept : (k : Declarations) (past : Past) (e : Entry) (h q : ℕ) → has_entered k past h q ≡ true → has_entered k (e ∷ past) h q ≡ true
 entered-kept k past e h q is = entered-more k past e h q (below k.cores) is
@@ -120,13 +113,9 @@ fr-kept : (k : Declarations) (past : Past) (d : ℕ) (w : What) (i : ℕ) → la
 fr-kept k past d w i last same mono (Never none) = Never (last ∙ none)
 fr-kept k past d w i last same mono (Again h m s is minted spent free) = Again h m s (last ∙ is) (same h is ∙ minted) (spending-kept past d w h s spent) (mono h s.what free)
 
-both-true : (a b : Bool) → a ≡ true → b ≡ true → (a && b) ≡ true
-both-true true b p q = q
-both-true false b p q = absurd cc
-
 completed-mono : (k : Declarations) (past : Past) (e : Entry) (h : ℕ) (o : Option ℕ) → completed_free k past h o ≡ true → completed_free k (e ∷ past) h o ≡ true
 completed-mono k past e h None free = absurd cc
-completed-mono k past e h (Some q) free = let b = and-true (has_entered k past h q) (is_output (kind_of k q)) free in both-true _ _ (entered-kept k past e h q b.0) b.1
+completed-mono k past e h (Some q) free = let b = and-true (has_entered k past h q) (is_output (kind_of k q)) free in and_from _ _ (entered-kept k past e h q b.0) b.1
 
 noted-mono : (k : Declarations) (past : Past) (e : Entry) (h : ℕ) (notes : List Note) (o r : Option Bool) → ((b : Bool) → o ≡ Some b → r ≡ Some b) → noted_free k past h notes o ≡ true → noted_free k (e ∷ past) h notes r ≡ true
 noted-mono k past e h notes None r keeps free = absurd cc
@@ -266,7 +255,7 @@ let-again k past e ss i is t =
     let u = t.let_in.sent in
     let came_in : has_item (came k past t.sent.queue t.sent.core (entering k past e)) t.sent.handle ≡ true = ap (λ xs. has_item (came k past t.sent.queue t.sent.core xs) t.sent.handle) is ∙ t.among in
     let entered : has_entered k (e ∷ past) t.sent.handle t.sent.queue ≡ true = came-enters k past e t.sent.handle t.sent.queue t.sent.core t.well.core came_in in
-    let here : (has_entered k (e ∷ past) t.sent.handle t.sent.queue && is_output (kind_of k t.sent.queue)) ≡ true = both-true _ _ entered t.output in
+    let here : (has_entered k (e ∷ past) t.sent.handle t.sent.queue && is_output (kind_of k t.sent.queue)) ≡ true = and_from _ _ entered t.output in
     let there : free_after k (e ∷ past) t.sent.handle (What.Send u.handle u.to u.number u.stamp) ≡ true =
     ap (λ (q : ℕ). has_entered k (e ∷ past) t.sent.handle q && is_output (kind_of k q)) u.queue ∙ here in
     ap (free_after k (e ∷ past) t.sent.handle) u.what ∙ there
@@ -401,7 +390,7 @@ fr-next k l past d (What.Send f q t st) i lt all m sit old free = by_test (compa
         let one : has_item (came k past q.0 d (rec ∷ [])) f.0 ≡ true = has_item-left f.0 _ [] (rw (own-list k q.0 d) (item-has past rec u.origin u.minted)) in
         let came_in : has_item (came k past q.0 d (entering k past e)) f.0 ≡ true = ap (λ b. has_item (came k past q.0 d (if b then rec ∷ [] else [])) f.0) on ∙ one in
         Again f.0 u.origin (record { before = past; core = d; what = w }) (ap (last_handle past) (sym same) ∙ hand.sits.last) u.minted
-        (spends-now past d w f.0 u.unspent (rw (eq-eqb f.0 f.0 refl) refl)) (both-true _ _ (came-enters k past e f.0 q.0 d lt came_in) out)
+        (spends-now past d w f.0 u.unspent (rw (eq-eqb f.0 f.0 refl) refl)) (and_from _ _ (came-enters k past e f.0 q.0 d lt came_in) out)
 
     own : index_of f.0 ≡ i → (index_of f.0 == i) ≡ true → (b o : Bool) → enters past (ticket_of_send past d t) ≡ b → is_output (kind_of k q.0) ≡ o
         → spot (moved (out_moves k (if b then rec ∷ [] else [])) (Spent d f.0 (if b then Spend.Sent q else Spend.Delayed q) (length past) ∷ pool_steps k past)) i ≡ Place.Free → Fr k (e ∷ past) i
@@ -527,7 +516,7 @@ fr-next k l past d (What.Done op ok) i lt all m sit old free = by_ok ok refl m f
             let mi = spent-minted k l past t.handle _ all b.spent in
             let inside = came-enters k past (entry_by d (What.Done op true)) t.handle t.queue d lt (notes-came k past now d ns t.handle t.queue mi.0 t.to t.unclosed mi.1) in
             let at : note_queue t.handle notes ≡ Some t.queue = ap (note_queue t.handle) same ∙ t.to in
-            ap (completed_free k now t.handle) at ∙ both-true _ _ inside t.output)
+            ap (completed_free k now t.handle) at ∙ and_from _ _ inside t.output)
     by_ok false eq m free = by_touch (touches (map freed_move ns) i) refl
       where
         now : Past
@@ -567,7 +556,7 @@ fr-next k l past d (What.Notify g a) i lt all m sit old free = by_touch (touches
         let at : note_queue t.handle b.notes ≡ Some t.queue = ap (note_queue t.handle) (sym list) ∙ t.to in
         let ended : application_end now b.group.0 b.app ≡ Some true = rw (eq-eqb g.0 b.group.0 (sym b.same_group), eq-eqb a b.app (sym (eqb-eq _ a on.1) ∙ sym b.number)) refl in
         Again t.handle mi.0 s (ap (last_handle past) (sym t.index) ∙ (noted t.handle t.among).last) mi.1 b.spent
-        (ap (noted_free k now t.handle b.notes) ended ∙ (ap (completed_free k now t.handle) at ∙ both-true _ _ inside t.output))
+        (ap (noted_free k now t.handle b.notes) ended ∙ (ap (completed_free k now t.handle) at ∙ and_from _ _ inside t.output))
 fr-next k l past d (What.Abort g) i lt all m sit old free = by_touch (touches (map freed_move ns) i) refl
   where
     now : Past

@@ -1,5 +1,6 @@
 -- Parked handles sit after mintings.
 use Rattle.std.proofs.Common.{◌≡◌, ◌≢◌, ℕ, suc, ◌+◌, ◌≤◌, ◌<◌, ◌==◌, Bool, true, false, ◌||◌, List, [], ◌∷◌, drop, Option, Some, None, refl, sym, ◌∙◌, subst, ap, if◌then◌else◌, arith}
+use Rattle.em_laws.proofs.Acks.{has-cons}
 use Rattle.std.specs.List.{find}
 use Rattle.std.specs.Option.{option_map, option_map_or}
 use Rattle.std.proofs.lemmas.Bool.{eq-eqb}
@@ -278,13 +279,6 @@ claimed-from k past d e is = by_object (context_object k past d) refl is
     by_object None at is = absurd cc
     by_object (Some x) at is = by_kept x at (kept k past x) refl is
 
-has-more : (h x : ℕ) (xs : List ℕ) → has xs h ≡ true → has (x ∷ xs) h ≡ true
-has-more h x xs is = by_test (x == h)
-  where
-    by_test : (b : Bool) → (b || has xs h) ≡ true
-    by_test true = refl
-    by_test false = is
-
 first-once : (h f : ℕ) (fs : List ℕ) → f ≡ h → has fs h ≡ true → occ h (f ∷ fs) ≤ 1 → ⊥
 first-once h f fs same there once =
     let more = has-occ h fs there in
@@ -326,7 +320,7 @@ sits-claim k past d e m once fresh older h p parked = by_parked parked
         let on : is_number x (context_object k past d) ≡ true = ap (is_number x) object_is ∙ eq-eqb x x refl in
         let list : kept k past x ≡ f ∷ from.rest = ap (kept k past) same ∙ from.kept in
         let rest : has from.rest h ≡ true = sym (ap (λ xs. has (drop 1 xs) h) list) ∙ (rw on at there) in
-        let sits = older h p (InObject x (ap (λ xs. has xs h) list ∙ has-more h f from.rest rest) eq) in
+        let sits = older h p (InObject x (ap (λ xs. has xs h) list ∙ has-cons f from.rest h rest) eq) in
         given (mint-keeps k past d e h p sits (λ at_one.
         let one : f ≡ h = same-handle k past h f p _ sits sits_f (sym index ∙ at_one) in
         first-once h f from.rest one rest (subst (λ xs. occ h xs ≤ 1) list (once x h))))

@@ -1,5 +1,6 @@
 -- Which indices an entry moves.
 use Rattle.std.proofs.Common.{◌≡◌, ℕ, ◌==◌, Bool, true, false, ◌||◌, List, [], ◌∷◌, map, refl, ◌∙◌, ap, if◌then◌else◌}
+use Rattle.std.proofs.lemmas.Bool.{or_left, or_right}
 use Rattle.std.proofs.lemmas.Bool.{eq-eqb}
 use Rattle.em_log.specs.declared.declarations.Declarations.{Declarations}
 use Rattle.em_log.specs.History.{Past, index_of}
@@ -12,7 +13,7 @@ use Rattle.em_pool.specs.Steps.{PoolStep, Shifted}
 use Rattle.em_laws.proofs.Cores.{Compared, Same, Other, compared, eqb-eq}
 use Rattle.em_parts.specs.PoolSteps.{Move, moved, item_move, sent_move}
 use Rattle.em_pool.specs.Spots.{spot}
-use Rattle.em_arrivals.proofs.Lists.{AllSent, item-handle, InEither, InFirst, InSecond, in-either, or-left, or-right, came}
+use Rattle.em_arrivals.proofs.Lists.{AllSent, item-handle, InEither, InFirst, InSecond, in-either, came}
 
 abbrev pub touches : List Move → ℕ → Bool
 touches [] i = false
@@ -65,23 +66,15 @@ touched-item to (x ∷ xs) i is = by_test (index_of x.handle == i) refl is (touc
   where
     by_test : (b : Bool) → (index_of x.handle == i) ≡ b → (b || touches (map (item_move to) xs) i) ≡ true → (touches (map (item_move to) xs) i ≡ true → TouchedItem xs i) → TouchedItem (x ∷ xs) i
     by_test true own is later = record { handle = x.handle; among = rw (eq-eqb x.handle x.handle refl) refl; index = eqb-eq _ i own }
-    by_test false own is later = let t = later is in record { handle = t.handle; among = more (x.handle == t.handle) t.among; index = t.index }
-      where
-        more : (b : Bool) {r : Bool} → r ≡ true → (b || r) ≡ true
-        more true e = refl
-        more false e = e
+    by_test false own is later = let t = later is in record { handle = t.handle; among = or_right (x.handle == t.handle) _ t.among; index = t.index }
 
 pub item-touched : (to : Place) (xs : List Item) (h : ℕ) → has_item xs h ≡ true → touches (map (item_move to) xs) (index_of h) ≡ true
 item-touched to [] h is = absurd cc
 item-touched to (x ∷ xs) h is = by_test (compared x.handle h) is (item-touched to xs h)
   where
-    more : (b r : Bool) → r ≡ true → (b || r) ≡ true
-    more true r e = refl
-    more false r e = e
-
     by_test : Compared x.handle h → has_item (x ∷ xs) h ≡ true → (has_item xs h ≡ true → touches (map (item_move to) xs) (index_of h) ≡ true) → touches (map (item_move to) (x ∷ xs)) (index_of h) ≡ true
     by_test (Same t e) is later = let own = eq-eqb (index_of x.handle) (index_of h) (ap index_of e) in rw own refl
-    by_test (Other f e) is later = more (index_of x.handle == index_of h) _ (later (rw f at is))
+    by_test (Other f e) is later = or_right (index_of x.handle == index_of h) _ (later (rw f at is))
 
 -- what goes to queues
 
@@ -115,13 +108,13 @@ came-sent k past P [] q c h a is = absurd cc
 came-sent k past P (s ∷ ss) q c h a is = by_either (in-either h (if is_for k q c s.queue s.core then item past s else []) (came k past q c ss) is) (came-sent k past P ss q c h a.1)
   where
     later : CameSent k P ss q c h → CameSent k P (s ∷ ss) q c h
-    later t = record { sent = t.sent; holds = t.holds; handle = t.handle; list = t.list; touched = or-right (index_of s.handle == index_of h) _ t.touched }
+    later t = record { sent = t.sent; holds = t.holds; handle = t.handle; list = t.list; touched = or_right (index_of s.handle == index_of h) _ t.touched }
 
     by_for : (b : Bool) → is_for k q c s.queue s.core ≡ b → has_item (if b then item past s else []) h ≡ true → CameSent k P (s ∷ ss) q c h
     by_for false own is = absurd cc
     by_for true own is =
         let e : s.handle ≡ h = item-handle h s.handle s.stamp (minting past s.handle) is in
-        record { sent = s; holds = a.0; handle = e; list = own; touched = or-left _ _ (eq-eqb (index_of s.handle) (index_of h) (ap index_of e)) }
+        record { sent = s; holds = a.0; handle = e; list = own; touched = or_left _ _ (eq-eqb (index_of s.handle) (index_of h) (ap index_of e)) }
 
     by_either : InEither h (if is_for k q c s.queue s.core then item past s else []) (came k past q c ss) → (has_item (came k past q c ss) h ≡ true → CameSent k P ss q c h) → CameSent k P (s ∷ ss) q c h
     by_either (InFirst f) rest = by_for (is_for k q c s.queue s.core) refl f

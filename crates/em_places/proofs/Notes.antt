@@ -1,5 +1,6 @@
 -- Parked handles sit after what hands notes in, and after what completes or frees them.
-use Rattle.std.proofs.Common.{◌≡◌, ◌≢◌, ℕ, suc, ◌≤◌, ◌==◌, Bool, true, false, not, ◌||◌, ◌&&◌, List, [], ◌∷◌, length, map, Option, Some, None, refl, sym, ◌∙◌, subst, ap, is_none, if◌then◌else◌, arith}
+use Rattle.std.proofs.Common.{◌≡◌, ◌≢◌, ℕ, suc, ◌≤◌, ◌==◌, Bool, true, false, not, ◌||◌, ◌&&◌, List, [], ◌∷◌, length, map, Option, Some, None, refl, sym, ◌∙◌, subst, ap, if◌then◌else◌, arith}
+use Rattle.std.proofs.lemmas.Bool.{or_right}
 use Rattle.std.proofs.lemmas.Bool.{eq-eqb}
 use Rattle.em_log.specs.declared.declarations.Declarations.{Declarations}
 use Rattle.em_log.specs.declared.entry.Entry.{Entry}
@@ -36,7 +37,7 @@ use Rattle.em_laws.proofs.Respects.{DoneNow, done-now}
 use Rattle.em_laws.proofs.Spent.{notes-usable, notes-spent, applied-spent, unended}
 use Rattle.em_laws.proofs.Entering.{times_allowed, times_allowed_by, one_if_ok}
 use Rattle.em_arrivals.proofs.Entered.{entered-let}
-use Rattle.em_places.proofs.SpentHandles.{begun-of, applied-of}
+use Rattle.em_places.proofs.SpentHandles.{begun-of, applied-list, apply-names}
 use Rattle.em_places.proofs.FreeAfter.{free-pull, FreeNow, FreeBefore, CameOut, completed-now, noted-freed}
 use Rattle.em_parts.specs.PoolSteps.{Move, moved, entry_place, note_place, note_move, freed_move, noted_steps, pool_steps}
 use Rattle.em_pool.specs.Spots.{spot}
@@ -54,17 +55,13 @@ pub record TouchedNote (ns : List Note) (i : ℕ) : Type 0 where
   pub among : has (note_words ns) handle ≡ true
   pub index : index_of handle ≡ i
 
-or-right : (a b : Bool) → b ≡ true → (a || b) ≡ true
-or-right true b e = refl
-or-right false b e = e
-
 pub touched-note : (ns : List Note) (i : ℕ) → touches (map freed_move ns) i ≡ true → TouchedNote ns i
 touched-note [] i is = absurd cc
 touched-note (n ∷ ns) i is = by_test (index_of n.word == i) refl is (touched-note ns i)
   where
     by_test : (b : Bool) → (index_of n.word == i) ≡ b → (b || touches (map freed_move ns) i) ≡ true → (touches (map freed_move ns) i ≡ true → TouchedNote ns i) → TouchedNote (n ∷ ns) i
     by_test true own is later = record { handle = n.word; among = rw (eq-eqb n.word n.word refl) refl; index = eqb-eq _ i own }
-    by_test false own is later = let t = later is in record { handle = t.handle; among = or-right (n.word == t.handle) _ t.among; index = t.index }
+    by_test false own is later = let t = later is in record { handle = t.handle; among = or_right (n.word == t.handle) _ t.among; index = t.index }
 
 pub note-touched : (ns : List Note) (h : ℕ) → has (note_words ns) h ≡ true → touches (map freed_move ns) (index_of h) ≡ true
 note-touched [] h is = absurd cc
@@ -73,7 +70,7 @@ note-touched (n ∷ ns) h is = by_test (compared n.word h) is (note-touched ns h
     by_test : Compared n.word h → has (note_words (n ∷ ns)) h ≡ true → (has (note_words ns) h ≡ true → touches (map freed_move ns) (index_of h) ≡ true)
         → touches (map freed_move (n ∷ ns)) (index_of h) ≡ true
     by_test (Same t e) is later = let own = eq-eqb (index_of n.word) (index_of h) (ap index_of e) in rw own refl
-    by_test (Other f e) is later = or-right (index_of n.word == index_of h) _ (later (rw f at is))
+    by_test (Other f e) is later = or_right (index_of n.word == index_of h) _ (later (rw f at is))
 
 pub same-touches : (k : Declarations) (now : Past) (ns : List Note) (i : ℕ) → touches (map (note_move k now) ns) i ≡ touches (map freed_move ns) i
 same-touches k now [] i = refl
@@ -277,7 +274,7 @@ pub one-queue : (ns : List Note) → ((h : ℕ) → occ h (note_words ns) ≤ 1)
 one-queue [] once = tt
 one-queue (n ∷ ns) once = (
   record { among = rw (eq-eqb n.word n.word refl) refl; queue = rw (eq-eqb n.word n.word refl) refl },
-  notes-map (OneQueue ns) (OneQueue (n ∷ ns)) ns (λ v one. record { among = or-right (n.word == v.word) _ one.among; queue = later v one (compared n.word v.word) }) (one-queue ns rest),
+  notes-map (OneQueue ns) (OneQueue (n ∷ ns)) ns (λ v one. record { among = or_right (n.word == v.word) _ one.among; queue = later v one (compared n.word v.word) }) (one-queue ns rest),
 )
   where
     rest : (h : ℕ) → occ h (note_words ns) ≤ 1
@@ -607,7 +604,8 @@ abort-free k l past d g h s (What.Apply i b n notes) all is what free = by_test 
         let both = and-true (g.0 == i.0) (applications past i.0 == b) t in
         let group : g.0 ≡ i.0 = eqb-eq g.0 i.0 both.0 in
         let here : applications past i.0 ≡ b = eqb-eq (applications past i.0) b both.1 in
-        let there = (applied-of k l past h s i b n notes all is what).1 here in
+        let there : has (note_words (applied_notes past i.0)) h ≡ true =
+        ap (λ ns. has (note_words ns) h) (applied-list k l past h s i b n notes all is what here) ∙ apply-names past h s i b n notes is what in
         Freed refl (ap (λ (x : ℕ). has (note_words (applied_notes past x)) h) group ∙ there)
 abort-free k l past d g h s v all is what free = absurd cc
 

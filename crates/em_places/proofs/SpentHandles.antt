@@ -1,5 +1,6 @@
 -- What is known of a spent handle: it was minted, and an operation or an application has it among its notes.
 use Rattle.std.proofs.Common.{◌≡◌, ◌⊎◌, inl, inr, ℕ, suc, ◌≤◌, ◌==◌, Bool, true, false, ◌||◌, List, [], ◌∷◌, ◌++◌, Option, Some, None, refl, sym, ◌∙◌, subst, ap, if◌then◌else◌, arith}
+use Rattle.std.proofs.lemmas.Bool.{or_right}
 use Rattle.std.proofs.lemmas.Bool.{eq-eqb}
 use Rattle.em_log.specs.declared.declarations.Declarations.{Declarations}
 use Rattle.em_log.specs.declared.entry.Begun.{Begun}
@@ -27,7 +28,7 @@ use Rattle.em_laws.proofs.Steps.{always-here}
 use Rattle.em_parts.specs.PoolSteps.{pool_steps}
 use Rattle.em_parts.proofs.Mintings.{same-minting}
 use Rattle.em_parts.proofs.Holdings.{same-held}
-use Rattle.em_places.proofs.Spending.{SpentBy, SpentBefore, SpentNow, spent-some}
+use Rattle.em_places.proofs.Spending.{SpentBy, SpentBefore, SpentNow, spent-some, one-named}
 
 -- it was minted
 
@@ -55,28 +56,20 @@ append-either h x (y ∷ ys) is = by_case (or-either (y == h) (has (ys ++ x ∷ 
     by_case (inl e) later = inl (rw e refl)
     by_case (inr e) later = more (later e)
       where
-        or-right : (a b : Bool) → b ≡ true → (a || b) ≡ true
-        or-right true b e = refl
-        or-right false b e = e
-
         more : (has ys h ≡ true) ⊎ ((x == h) ≡ true) → (has (y ∷ ys) h ≡ true) ⊎ ((x == h) ≡ true)
-        more (inl t) = inl (or-right (y == h) (has ys h) t)
+        more (inl t) = inl (or_right (y == h) (has ys h) t)
         more (inr t) = inr t
 
 without-has : (h n : ℕ) (xs : List ℕ) → has (without n xs) h ≡ true → has xs h ≡ true
 without-has h n [] is = absurd cc
 without-has h n (x ∷ xs) is = by_test (x == n) is (without-has h n xs)
   where
-    or-right : (a b : Bool) → b ≡ true → (a || b) ≡ true
-    or-right true b e = refl
-    or-right false b e = e
-
     by_own : (b : Bool) → (x == h) ≡ b → (b || has (without n xs) h) ≡ true → (has (without n xs) h ≡ true → has xs h ≡ true) → has (x ∷ xs) h ≡ true
     by_own true at is later = rw at refl
-    by_own false at is later = or-right (x == h) (has xs h) (later is)
+    by_own false at is later = or_right (x == h) (has xs h) (later is)
 
     by_test : (b : Bool) → has (if b then without n xs else x ∷ without n xs) h ≡ true → (has (without n xs) h ≡ true → has xs h ≡ true) → has (x ∷ xs) h ≡ true
-    by_test true is later = or-right (x == h) (has xs h) (later is)
+    by_test true is later = or_right (x == h) (has xs h) (later is)
     by_test false is later = by_own (x == h) refl is later
 
 steps-held : (steps : List pools.PoolStep) (c h : ℕ) → has (pools.held steps c) h ≡ true → (m : Minting) × (pool.minting steps h ≡ Some m)
@@ -106,13 +99,6 @@ held-minted : (k : Declarations) (l : Limits) (past : Past) (c h : ℕ) → AllA
 held-minted k l past c h all is =
     let m = steps-held (pool_steps k past) c h (ap (λ hs. has hs h) (same-held k l past c all) ∙ is) in
     (m.0, sym (same-minting k past h) ∙ m.1)
-
-one-named : (f h : ℕ) → has (f ∷ []) h ≡ true → f ≡ h
-one-named f h is = by_test (compared f h) is
-  where
-    by_test : Compared f h → has (f ∷ []) h ≡ true → f ≡ h
-    by_test (Same t e) is = e
-    by_test (Other t ne) is = absurd (cc (rw t at is))
 
 spends-minted : (k : Declarations) (l : Limits) (past : Past) (d : ℕ) (w : What) (h : ℕ) → AllAllowed k l past → Moment k l past d w → spends past d w h ≡ true → (m : Minting) × (minting past h ≡ Some m)
 spends-minted k l past d (What.Send f q t s) h all m is = let u = usable past d f.0 m.rule in (u.origin, ap (minting past) (sym (one-named f.0 h is)) ∙ u.minted)
@@ -195,44 +181,17 @@ not-done-yet k l past n all is = by_done (done past n) refl
         let o = begun (always-here (AllFinished k) past (finished k l past all) n b at) in
         let lt = numbered k l past all n o.0 o.1 in absurd (omega (arith, lt, is))
 
--- an application's notes are those of its apply while it is the last
-record AppliedAs (past : Past) (g b h : ℕ) : Type 0 where
-  reached : b ≤ applications past g
-  current : applications past g ≡ b → has (note_words (applied_notes past g)) h ≡ true
-
-applied-kept : (past : Past) (d : ℕ) (w : What) (g b h : ℕ) → AppliedAs past g b h → AppliedAs (entry_by d w ∷ past) g b h
-applied-kept past d (What.Apply i c n notes) g b h was = by_test (compared i.0 g)
+-- what an apply spent is among its notes
+pub apply-names : (past : Past) (h : ℕ) (s : Spending) (g : EventGroupId) (b n : ℕ) (notes : List Note) → spending past h ≡ Some s → s.what ≡ What.Apply g b n notes
+    → has (note_words notes) h ≡ true
+apply-names [] h s g b n notes is what = absurd cc
+apply-names (e ∷ past) h s g b n notes is what =
+    by_spent (spent-some (spends past e.core.0 e.what h) past e (spending past h) s is) (λ t. apply-names past h s g b n notes t what)
   where
-    by_test : Compared i.0 g → AppliedAs (entry_by d (What.Apply i c n notes) ∷ past) g b h
-    by_test (Same t e) =
-        let le = was.reached in
-        record { reached = rw t (omega (arith, le)); current = λ is. absurd (let now : suc (applications past g) ≡ b = rw t at is in omega (arith, le, now)) }
-    by_test (Other f ne) = record { reached = rw f was.reached; current = λ is. rw f (was.current (rw f at is)) }
-applied-kept past d w g b h was = record { reached = was.reached; current = was.current }
-
-applied-as : (k : Declarations) (l : Limits) (past : Past) (h : ℕ) (s : Spending) (g : EventGroupId) (b n : ℕ) (notes : List Note) → AllAllowed k l past → spending past h ≡ Some s → s.what ≡ What.Apply g b n notes
-    → AppliedAs past g.0 b h
-applied-as k l [] h s g b n notes all is what = absurd cc
-applied-as k l (e ∷ past) h s g b n notes all is what =
-    by_spent (spent-some (spends past e.core.0 e.what h) past e (spending past h) s is) (λ t. applied-as k l past h s g b n notes all.1 t what)
-  where
-    made : ApplyMoment k past e.core.0 g.0 b n notes → has (note_words notes) h ≡ true → AppliedAs (entry_by e.core.0 (What.Apply g b n notes) ∷ past) g.0 b h
-    made m there =
-        let own = eq-eqb g.0 g.0 refl in
-        let number = m.number in
-        record { reached = rw own (omega (arith, number)); current = λ is. rw own there }
-
-    by_spent : SpentBy past e (spends past e.core.0 e.what h) (spending past h) s → (spending past h ≡ Some s → AppliedAs past g.0 b h) → AppliedAs (e ∷ past) g.0 b h
-    by_spent (SpentBefore t) older = applied-kept past e.core.0 e.what g.0 b h (older t)
+    by_spent : SpentBy past e (spends past e.core.0 e.what h) (spending past h) s → (spending past h ≡ Some s → has (note_words notes) h ≡ true) → has (note_words notes) h ≡ true
+    by_spent (SpentBefore t) older = older t
     by_spent (SpentNow v t) older =
-        let w : e.what ≡ What.Apply g b n notes = sym (ap (λ (x : Spending). x.what) t) ∙ what in
-        let m : Moment k l past e.core.0 (What.Apply g b n notes) = subst (Moment k l past e.core.0) w (allowed-moment k l past e all.1 all.0) in
-        let there : spends past e.core.0 (What.Apply g b n notes) h ≡ true = subst (λ x. spends past e.core.0 x h ≡ true) w v in
-        subst (λ x. AppliedAs (entry_by e.core.0 x ∷ past) g.0 b h) (sym w) (made m there)
-
-pub applied-of : (k : Declarations) (l : Limits) (past : Past) (h : ℕ) (s : Spending) (g : EventGroupId) (b n : ℕ) (notes : List Note) → AllAllowed k l past → spending past h ≡ Some s → s.what ≡ What.Apply g b n notes
-    → (b ≤ applications past g.0) × (applications past g.0 ≡ b → has (note_words (applied_notes past g.0)) h ≡ true)
-applied-of k l past h s g b n notes all is what = let a = applied-as k l past h s g b n notes all is what in (a.reached, a.current)
+        let w : e.what ≡ What.Apply g b n notes = sym (ap (λ (x : Spending). x.what) t) ∙ what in subst (λ x. spends past e.core.0 x h ≡ true) w v
 
 -- an application's notes, while it is the last
 record AppliedNotes (past : Past) (g b : ℕ) (notes : List Note) : Type 0 where
