@@ -4,3 +4,4 @@ pub mod Holdings
 pub mod Spendings
 pub mod Unspent
 pub mod QueueLists
+pub mod Untouched

@@ -1,5 +1,5 @@
 -- The steps of the queues that a history makes, over all kinds of entries.
-use Rattle.std.specs.Prelude.{ℕ, List, [], ◌∷◌, Some, if◌then◌else◌}
+use Rattle.std.specs.Prelude.{ℕ, Bool, true, false, List, [], ◌∷◌, Some, if◌then◌else◌}
 use Rattle.em_log.specs.declared.declarations.Declarations.{Declarations}
 use Rattle.em_log.specs.declared.entry.Entry.{Entry}
 use Rattle.em_log.specs.declared.entry.What.{What}
@@ -33,3 +33,17 @@ queue_after k past e steps = arrived_steps k past (entering k past e) (served_st
 abbrev pub queue_steps : Declarations → Past → List QueueStep
 queue_steps k [] = []
 queue_steps k (e ∷ past) = queue_after k past e (queue_steps k past)
+
+-- whether an entry changes what waits or is taken
+abbrev pub touches_queues : What → Bool
+touches_queues (What.Take q n t) = true
+touches_queues (What.Start q e s) = true
+touches_queues (What.Untake q n) = true
+touches_queues (What.End lost cells) = true
+touches_queues (What.EndAtomic rest cells) = true
+touches_queues What.EndOrdered = true
+touches_queues (What.Send h q t s) = true
+touches_queues (What.Dequeue q (Some e)) = true
+touches_queues (What.Done op true) = true
+touches_queues (What.Notify g a) = true
+touches_queues w = false

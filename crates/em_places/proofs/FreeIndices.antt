@@ -104,14 +104,14 @@ entered-kept k past e h q is = entered-more k past e h q (below k.cores) is
 
 -- free again
 
-pub data Fr (k : Declarations) (past : Past) (i : ℕ) : Type 0 where
-  Never : last_handle past i ≡ None → Fr k past i
-  Again : (h : ℕ) (m : Minting) (s : Spending) → last_handle past i ≡ Some h → minting past h ≡ Some m → spending past h ≡ Some s → free_after k past h s.what ≡ true → Fr k past i
+pub data FreeAt (k : Declarations) (past : Past) (i : ℕ) : Type 0 where
+  Never : last_handle past i ≡ None → FreeAt k past i
+  Again : (h : ℕ) (m : Minting) (s : Spending) → last_handle past i ≡ Some h → minting past h ≡ Some m → spending past h ≡ Some s → free_after k past h s.what ≡ true → FreeAt k past i
 
-fr-kept : (k : Declarations) (past : Past) (d : ℕ) (w : What) (i : ℕ) → last_handle (entry_by d w ∷ past) i ≡ last_handle past i → ((h : ℕ) → last_handle past i ≡ Some h → minting (entry_by d w ∷ past) h ≡ minting past h)
-    → ((h : ℕ) (v : What) → free_after k past h v ≡ true → free_after k (entry_by d w ∷ past) h v ≡ true) → Fr k past i → Fr k (entry_by d w ∷ past) i
-fr-kept k past d w i last same mono (Never none) = Never (last ∙ none)
-fr-kept k past d w i last same mono (Again h m s is minted spent free) = Again h m s (last ∙ is) (same h is ∙ minted) (spending-kept past d w h s spent) (mono h s.what free)
+free-at-kept : (k : Declarations) (past : Past) (d : ℕ) (w : What) (i : ℕ) → last_handle (entry_by d w ∷ past) i ≡ last_handle past i → ((h : ℕ) → last_handle past i ≡ Some h → minting (entry_by d w ∷ past) h ≡ minting past h)
+    → ((h : ℕ) (v : What) → free_after k past h v ≡ true → free_after k (entry_by d w ∷ past) h v ≡ true) → FreeAt k past i → FreeAt k (entry_by d w ∷ past) i
+free-at-kept k past d w i last same mono (Never none) = Never (last ∙ none)
+free-at-kept k past d w i last same mono (Again h m s is minted spent free) = Again h m s (last ∙ is) (same h is ∙ minted) (spending-kept past d w h s spent) (mono h s.what free)
 
 completed-mono : (k : Declarations) (past : Past) (e : Entry) (h : ℕ) (o : Option ℕ) → completed_free k past h o ≡ true → completed_free k (e ∷ past) h o ≡ true
 completed-mono k past e h None free = absurd cc
@@ -167,13 +167,13 @@ abort-stays k l past d g all active i c b is = by_test ((g.0 == i) && (applicati
 mint-back : (k : Declarations) (past : Past) (d : ℕ) (w : What) (e : Event) (i : ℕ) → ((h : ℕ) (v : What) → free_after k past h v ≡ true → free_after k (entry_by d w ∷ past) h v ≡ true)
     → ((j : ℕ) → last_handle (entry_by d w ∷ past) j ≡ (if index_of e.handle.0 == j then Some e.handle.0 else last_handle past j))
     → ((h : ℕ) → minting (entry_by d w ∷ past) h ≡ (if e.handle.0 == h then Some (record { core = d; event = e }) else minting past h))
-    → (spot (pool_steps k past) i ≡ Place.Free → Fr k past i) → (if index_of e.handle.0 == i then Place.Held (record { 0 = d }) else spot (pool_steps k past) i) ≡ Place.Free → Fr k (entry_by d w ∷ past) i
+    → (spot (pool_steps k past) i ≡ Place.Free → FreeAt k past i) → (if index_of e.handle.0 == i then Place.Held (record { 0 = d }) else spot (pool_steps k past) i) ≡ Place.Free → FreeAt k (entry_by d w ∷ past) i
 mint-back k past d w e i mono last minted old free = by_test (compared (index_of e.handle.0) i)
   where
-    by_test : Compared (index_of e.handle.0) i → Fr k (entry_by d w ∷ past) i
+    by_test : Compared (index_of e.handle.0) i → FreeAt k (entry_by d w ∷ past) i
     by_test (Same t is) = absurd (let h : Place.Held (record { 0 = d }) ≡ Place.Free = rw t at free in cc h)
     by_test (Other f ne) =
-        fr-kept k past d w i (last i ∙ (rw f refl)) (λ h is. minted h ∙ by_handle h is (compared e.handle.0 h)) mono (old (rw f at free))
+        free-at-kept k past d w i (last i ∙ (rw f refl)) (λ h is. minted h ∙ by_handle h is (compared e.handle.0 h)) mono (old (rw f at free))
       where
         by_handle : (h : ℕ) → last_handle past i ≡ Some h → Compared e.handle.0 h → (if e.handle.0 == h then Some (record { core = d; event = e }) else minting past h) ≡ minting past h
         by_handle h is (Same t same) = absurd (ne (ap index_of same ∙ (last-minted past i h is).0))
@@ -327,52 +327,52 @@ note-free k past now d ns i once noted touched free =
 
 -- every entry
 
-fr-next : (k : Declarations) (l : Limits) (past : Past) (d : ℕ) (w : What) (i : ℕ) → d < k.cores → AllAllowed k l past → Moment k l past d w → AllSit k past → (spot (pool_steps k past) i ≡ Place.Free → Fr k past i)
-    → spot (pool_steps k (entry_by d w ∷ past)) i ≡ Place.Free → Fr k (entry_by d w ∷ past) i
-fr-next k l past d (What.Take r n t) i lt all m sit old free =
-    fr-kept k past d (What.Take r n t) i refl (λ h is. refl) (λ h v f. free-pull k (entry_by d (What.Take r n t) ∷ past) past h v (λ q e. e) (λ n. refl) (λ g a. refl) f)
+free-at-next : (k : Declarations) (l : Limits) (past : Past) (d : ℕ) (w : What) (i : ℕ) → d < k.cores → AllAllowed k l past → Moment k l past d w → AllSit k past → (spot (pool_steps k past) i ≡ Place.Free → FreeAt k past i)
+    → spot (pool_steps k (entry_by d w ∷ past)) i ≡ Place.Free → FreeAt k (entry_by d w ∷ past) i
+free-at-next k l past d (What.Take r n t) i lt all m sit old free =
+    free-at-kept k past d (What.Take r n t) i refl (λ h is. refl) (λ h v f. free-pull k (entry_by d (What.Take r n t) ∷ past) past h v (λ q e. e) (λ n. refl) (λ g a. refl) f)
     (old (items-back k past (Place.Taken (record { 0 = d })) (take n (waiting k past r.0 d)) i (λ e. absurd (cc e)) free))
-fr-next k l past d (What.Untake r n) i lt all m sit old free =
-    fr-kept k past d (What.Untake r n) i refl (λ h is. refl) (λ h v f. free-pull k (entry_by d (What.Untake r n) ∷ past) past h v (λ q e. e) (λ n. refl) (λ g a. refl) f)
+free-at-next k l past d (What.Untake r n) i lt all m sit old free =
+    free-at-kept k past d (What.Untake r n) i refl (λ h is. refl) (λ h v f. free-pull k (entry_by d (What.Untake r n) ∷ past) past h v (λ q e. e) (λ n. refl) (λ g a. refl) f)
     (old (items-back k past (Place.Waiting r) (taken k past d) i (λ e. absurd (cc e)) free))
-fr-next k l past d (What.EndAtomic rest cells) i lt all m sit old free =
-    fr-kept k past d (What.EndAtomic rest cells) i refl (λ h is. refl) (λ h v f. free-pull k (entry_by d (What.EndAtomic rest cells) ∷ past) past h v (λ q e. e) (λ n. refl) (λ g a. refl) f)
+free-at-next k l past d (What.EndAtomic rest cells) i lt all m sit old free =
+    free-at-kept k past d (What.EndAtomic rest cells) i refl (λ h is. refl) (λ h v f. free-pull k (entry_by d (What.EndAtomic rest cells) ∷ past) past h v (λ q e. e) (λ n. refl) (λ g a. refl) f)
     (old (by_queue (receives_from past d) free))
   where
     by_queue : (o : Option ℕ) → spot (moved (back_moves o (taken k past d)) (pool_steps k past)) i ≡ Place.Free → spot (pool_steps k past) i ≡ Place.Free
     by_queue None f = f
     by_queue (Some r) f = items-back k past (Place.Waiting (record { 0 = r })) (taken k past d) i (λ e. absurd (cc e)) f
-fr-next k l past d (What.Start r e st) i lt all m sit old free =
+free-at-next k l past d (What.Start r e st) i lt all m sit old free =
     mint-back k past d (What.Start r e st) e i (λ h v f. free-pull k (entry_by d (What.Start r e st) ∷ past) past h v (λ q e. e) (λ n. refl) (λ g a. refl) f) (λ j. refl) (λ h. refl) old free
-fr-next k l past d (What.Alloc a e) i lt all m sit old free =
+free-at-next k l past d (What.Alloc a e) i lt all m sit old free =
     mint-back k past d (What.Alloc a e) e i (λ h v f. free-pull k (entry_by d (What.Alloc a e) ∷ past) past h v (λ q e. e) (λ n. refl) (λ g a. refl) f) (λ j. refl) (λ h. refl) old free
-fr-next k l past d (What.Claim (Some e)) i lt all m sit old free =
+free-at-next k l past d (What.Claim (Some e)) i lt all m sit old free =
     mint-back k past d (What.Claim (Some e)) e i (λ h v f. free-pull k (entry_by d (What.Claim (Some e)) ∷ past) past h v (λ q e. e) (λ n. refl) (λ g a. refl) f) (λ j. refl) (λ h. refl) old free
-fr-next k l past d (What.Dequeue r (Some e)) i lt all m sit old free =
+free-at-next k l past d (What.Dequeue r (Some e)) i lt all m sit old free =
     mint-back k past d (What.Dequeue r (Some e)) e i (λ h v f. free-pull k (entry_by d (What.Dequeue r (Some e)) ∷ past) past h v (λ q e. e) (λ n. refl) (λ g a. refl) f) (λ j. refl) (λ h. refl) old free
-fr-next k l past d (What.Free f) i lt all m sit old free = by_test (compared (index_of f.0) i)
+free-at-next k l past d (What.Free f) i lt all m sit old free = by_test (compared (index_of f.0) i)
   where
     w : What
     w = What.Free f
 
-    by_test : Compared (index_of f.0) i → Fr k (entry_by d w ∷ past) i
+    by_test : Compared (index_of f.0) i → FreeAt k (entry_by d w ∷ past) i
     by_test (Same t e) =
         let u = usable past d f.0 m.rule in
         let hand = in-hand k past d f.0 m.rule sit in
         Again f.0 u.origin (record { before = past; core = d; what = w }) (ap (last_handle past) (sym e) ∙ hand.sits.last) u.minted
         (spends-now past d w f.0 u.unspent (rw (eq-eqb f.0 f.0 refl) refl)) refl
     by_test (Other t ne) =
-        fr-kept k past d w i refl (λ h is. refl) (λ h v x. free-pull k (entry_by d w ∷ past) past h v (λ q e. e) (λ n. refl) (λ g a. refl) x) (old (rw t at free))
-fr-next k l past d (What.Keep f) i lt all m sit old free = by_test (compared (index_of f.0) i)
+        free-at-kept k past d w i refl (λ h is. refl) (λ h v x. free-pull k (entry_by d w ∷ past) past h v (λ q e. e) (λ n. refl) (λ g a. refl) x) (old (rw t at free))
+free-at-next k l past d (What.Keep f) i lt all m sit old free = by_test (compared (index_of f.0) i)
   where
     w : What
     w = What.Keep f
 
-    by_test : Compared (index_of f.0) i → Fr k (entry_by d w ∷ past) i
+    by_test : Compared (index_of f.0) i → FreeAt k (entry_by d w ∷ past) i
     by_test (Same t e) = absurd (let h : Place.Kept _ ≡ Place.Free = rw t at free in cc h)
     by_test (Other t ne) =
-        fr-kept k past d w i refl (λ h is. refl) (λ h v x. free-pull k (entry_by d w ∷ past) past h v (λ q e. e) (λ n. refl) (λ g a. refl) x) (old (rw t at free))
-fr-next k l past d (What.Send f q t st) i lt all m sit old free = by_test (compared (index_of f.0) i)
+        free-at-kept k past d w i refl (λ h is. refl) (λ h v x. free-pull k (entry_by d w ∷ past) past h v (λ q e. e) (λ n. refl) (λ g a. refl) x) (old (rw t at free))
+free-at-next k l past d (What.Send f q t st) i lt all m sit old free = by_test (compared (index_of f.0) i)
   where
     w : What
     w = What.Send f q t st
@@ -383,7 +383,7 @@ fr-next k l past d (What.Send f q t st) i lt all m sit old free = by_test (compa
     rec : Sent
     rec = record { queue = q.0; core = d; handle = f.0; stamp = st }
 
-    again : enters past (ticket_of_send past d t) ≡ true → is_output (kind_of k q.0) ≡ true → index_of f.0 ≡ i → Fr k (e ∷ past) i
+    again : enters past (ticket_of_send past d t) ≡ true → is_output (kind_of k q.0) ≡ true → index_of f.0 ≡ i → FreeAt k (e ∷ past) i
     again on out same =
         let u = usable past d f.0 m.rule in
         let hand = in-hand k past d f.0 m.rule sit in
@@ -393,7 +393,7 @@ fr-next k l past d (What.Send f q t st) i lt all m sit old free = by_test (compa
         (spends-now past d w f.0 u.unspent (rw (eq-eqb f.0 f.0 refl) refl)) (and_from _ _ (came-enters k past e f.0 q.0 d lt came_in) out)
 
     own : index_of f.0 ≡ i → (index_of f.0 == i) ≡ true → (b o : Bool) → enters past (ticket_of_send past d t) ≡ b → is_output (kind_of k q.0) ≡ o
-        → spot (moved (out_moves k (if b then rec ∷ [] else [])) (Spent d f.0 (if b then Spend.Sent q else Spend.Delayed q) (length past) ∷ pool_steps k past)) i ≡ Place.Free → Fr k (e ∷ past) i
+        → spot (moved (out_moves k (if b then rec ∷ [] else [])) (Spent d f.0 (if b then Spend.Sent q else Spend.Delayed q) (length past) ∷ pool_steps k past)) i ≡ Place.Free → FreeAt k (e ∷ past) i
     own same te false o is out x = absurd (let h : Place.Delayed q ≡ Place.Free = rw te at x in cc h)
     own same te true false is out x = absurd (let h : Place.Waiting q ≡ Place.Free = rw (out, te) at x in cc h)
     own same te true true is out x = again is out same
@@ -404,11 +404,11 @@ fr-next k l past d (What.Send f q t st) i lt all m sit old free = by_test (compa
     other te true false out x = rw (out, te) at x
     other te true true out x = rw (out, te) at x
 
-    by_test : Compared (index_of f.0) i → Fr k (e ∷ past) i
+    by_test : Compared (index_of f.0) i → FreeAt k (e ∷ past) i
     by_test (Same te same) = own same te (enters past (ticket_of_send past d t)) (is_output (kind_of k q.0)) refl refl free
     by_test (Other te ne) =
-        fr-kept k past d w i refl (λ h is. refl) (free-mono k past e (λ n b x. x) (λ g a b x. x)) (old (other te (enters past (ticket_of_send past d t)) (is_output (kind_of k q.0)) refl free))
-fr-next k l past d (What.End lost cells) i lt all m sit old free = by_touch (touches (map (sent_move k) ss) i) refl
+        free-at-kept k past d w i refl (λ h is. refl) (free-mono k past e (λ n b x. x) (λ g a b x. x)) (old (other te (enters past (ticket_of_send past d t)) (is_output (kind_of k q.0)) refl free))
+free-at-next k l past d (What.End lost cells) i lt all m sit old free = by_touch (touches (map (sent_move k) ss) i) refl
   where
     w : What
     w = What.End lost cells
@@ -426,16 +426,16 @@ fr-next k l past d (What.End lost cells) i lt all m sit old free = by_touch (tou
     by_held true x = absurd cc
     by_held false x = x
 
-    by_touch : (b : Bool) → touches (map (sent_move k) ss) i ≡ b → Fr k now i
+    by_touch : (b : Bool) → touches (map (sent_move k) ss) i ≡ b → FreeAt k now i
     by_touch false is =
-        fr-kept k past d w i refl (λ h is. refl) (free-mono k past (entry_by d w) (λ n b x. x) (λ g a b x. x))
+        free-at-kept k past d w i refl (λ h is. refl) (free-mono k past (entry_by d w) (λ n b x. x) (λ g a b x. x))
         (old (by_held (is_held_by d (spot (pool_steps k past) i)) (sym (untouched (map (sent_move k) ss) base i is) ∙ free)))
     by_touch true is =
         let t = let-free k l past now (open_ticket past d) base i all sit is free in
         let sits = let-delayed k past now t.sent t.let_in sit in
         Again t.sent.handle t.well.origin t.let_in.sent.how (ap (last_handle past) (sym t.index) ∙ sits.last) t.well.minted (spending-kept past d w t.sent.handle t.let_in.sent.how t.let_in.sent.spent)
         (let-again k past (entry_by d w) ss i refl t)
-fr-next k l past d What.EndOrdered i lt all m sit old free = by_touch (touches (map (sent_move k) ss) i) refl
+free-at-next k l past d What.EndOrdered i lt all m sit old free = by_touch (touches (map (sent_move k) ss) i) refl
   where
     w : What
     w = What.EndOrdered
@@ -446,35 +446,35 @@ fr-next k l past d What.EndOrdered i lt all m sit old free = by_touch (touches (
     ss : List Sent
     ss = let_in past now (open_ticket past d)
 
-    by_touch : (b : Bool) → touches (map (sent_move k) ss) i ≡ b → Fr k now i
+    by_touch : (b : Bool) → touches (map (sent_move k) ss) i ≡ b → FreeAt k now i
     by_touch false is =
-        fr-kept k past d w i refl (λ h is. refl) (free-mono k past (entry_by d w) (λ n b x. x) (λ g a b x. x)) (old (sym (untouched (map (sent_move k) ss) (pool_steps k past) i is) ∙ free))
+        free-at-kept k past d w i refl (λ h is. refl) (free-mono k past (entry_by d w) (λ n b x. x) (λ g a b x. x)) (old (sym (untouched (map (sent_move k) ss) (pool_steps k past) i is) ∙ free))
     by_touch true is =
         let t = let-free k l past now (open_ticket past d) (pool_steps k past) i all sit is free in
         let sits = let-delayed k past now t.sent t.let_in sit in
         Again t.sent.handle t.well.origin t.let_in.sent.how (ap (last_handle past) (sym t.index) ∙ sits.last) t.well.minted (spending-kept past d w t.sent.handle t.let_in.sent.how t.let_in.sent.spent)
         (let-again k past (entry_by d w) ss i refl t)
-fr-next k l past d (What.Begin op job notes) i lt all m sit old free = by_touch (touches (map freed_move notes) i) refl
+free-at-next k l past d (What.Begin op job notes) i lt all m sit old free = by_touch (touches (map freed_move notes) i) refl
   where
     w : What
     w = What.Begin op job notes
 
-    by_touch : (b : Bool) → touches (map freed_move notes) i ≡ b → Fr k (entry_by d w ∷ past) i
+    by_touch : (b : Bool) → touches (map freed_move notes) i ≡ b → FreeAt k (entry_by d w ∷ past) i
     by_touch true is = absurd (let h : Place.Noted ≡ Place.Free = sym (noted-touched d (length past) notes (pool_steps k past) i is) ∙ free in cc h)
     by_touch false is =
-        fr-kept k past d w i refl (λ h is. refl) (λ h v x. free-pull k (entry_by d w ∷ past) past h v (λ q e. e) (λ n. refl) (λ g a. refl) x)
+        free-at-kept k past d w i refl (λ h is. refl) (λ h v x. free-pull k (entry_by d w ∷ past) past h v (λ q e. e) (λ n. refl) (λ g a. refl) x)
         (old (sym (noted-untouched d (length past) notes (pool_steps k past) i is) ∙ free))
-fr-next k l past d (What.Apply g a c notes) i lt all m sit old free = by_touch (touches (map freed_move notes) i) refl
+free-at-next k l past d (What.Apply g a c notes) i lt all m sit old free = by_touch (touches (map freed_move notes) i) refl
   where
     w : What
     w = What.Apply g a c notes
 
-    by_touch : (b : Bool) → touches (map freed_move notes) i ≡ b → Fr k (entry_by d w ∷ past) i
+    by_touch : (b : Bool) → touches (map freed_move notes) i ≡ b → FreeAt k (entry_by d w ∷ past) i
     by_touch true is = absurd (let h : Place.Noted ≡ Place.Free = sym (noted-touched d (length past) notes (pool_steps k past) i is) ∙ free in cc h)
     by_touch false is =
-        fr-kept k past d w i refl (λ h is. refl) (λ h v x. free-pull k (entry_by d w ∷ past) past h v (λ q e. e) (λ n. refl) (λ g a. refl) x)
+        free-at-kept k past d w i refl (λ h is. refl) (λ h v x. free-pull k (entry_by d w ∷ past) past h v (λ q e. e) (λ n. refl) (λ g a. refl) x)
         (old (sym (noted-untouched d (length past) notes (pool_steps k past) i is) ∙ free))
-fr-next k l past d (What.Done op ok) i lt all m sit old free = by_ok ok refl m free
+free-at-next k l past d (What.Done op ok) i lt all m sit old free = by_ok ok refl m free
   where
     ns : List Note
     ns = notes_of (operation past op.0)
@@ -488,7 +488,7 @@ fr-next k l past d (What.Done op ok) i lt all m sit old free = by_ok ok refl m f
     -- the operation's note is free again
     again : (ok : Bool) (f : ℕ) → has (note_words ns) f ≡ true → index_of f ≡ i
         → ((b : Spending) (o : OpId) (notes : List Note) → notes ≡ ns → done (entry_by d (What.Done op ok) ∷ past) o.0 ≡ Some ok → noted_free k (entry_by d (What.Done op ok) ∷ past) f notes (Some ok) ≡ true)
-        → Fr k (entry_by d (What.Done op ok) ∷ past) i
+        → FreeAt k (entry_by d (What.Done op ok) ∷ past) i
     again ok f there index freed =
         let b = (notes-spent k l past all op.0 q.started q.begun).spent f (sym (ap (λ o. has (note_words (notes_of o)) f) q.begun) ∙ there) in
         let s : Spending = record { before = b.before; core = b.core; what = What.Begin b.op b.job b.notes } in
@@ -499,15 +499,15 @@ fr-next k l past d (What.Done op ok) i lt all m sit old free = by_ok ok refl m f
         Again f mi.0 s (ap (last_handle past) (sym index) ∙ (noted f there).last) mi.1 b.spent
         (ap (noted_free k (entry_by d (What.Done op ok) ∷ past) f b.notes) now ∙ freed s b.op b.notes same now)
 
-    by_ok : (v : Bool) → ok ≡ v → Moment k l past d (What.Done op v) → spot (pool_steps k (entry_by d (What.Done op v) ∷ past)) i ≡ Place.Free → Fr k (entry_by d (What.Done op v) ∷ past) i
+    by_ok : (v : Bool) → ok ≡ v → Moment k l past d (What.Done op v) → spot (pool_steps k (entry_by d (What.Done op v) ∷ past)) i ≡ Place.Free → FreeAt k (entry_by d (What.Done op v) ∷ past) i
     by_ok true eq m free = by_touch (touches (map freed_move ns) i) refl
       where
         now : Past
         now = entry_by d (What.Done op true) ∷ past
 
-        by_touch : (b : Bool) → touches (map freed_move ns) i ≡ b → Fr k now i
+        by_touch : (b : Bool) → touches (map freed_move ns) i ≡ b → FreeAt k now i
         by_touch false is =
-            fr-kept k past d (What.Done op true) i refl (λ h is. refl) (free-mono k past (entry_by d (What.Done op true)) (done-stays k l past d op true all m) (λ g a b x. x))
+            free-at-kept k past d (What.Done op true) i refl (λ h is. refl) (free-mono k past (entry_by d (What.Done op true)) (done-stays k l past d op true all m) (λ g a b x. x))
             (old (sym (untouched (map (note_move k now) ns) (pool_steps k past) i (same-touches k now ns i ∙ is)) ∙ free))
         by_touch true is =
             let t = note-free k past now d ns i (done-once k l past op.0 all q) noted is free in
@@ -522,12 +522,12 @@ fr-next k l past d (What.Done op ok) i lt all m sit old free = by_ok ok refl m f
         now : Past
         now = entry_by d (What.Done op false) ∷ past
 
-        by_touch : (b : Bool) → touches (map freed_move ns) i ≡ b → Fr k now i
+        by_touch : (b : Bool) → touches (map freed_move ns) i ≡ b → FreeAt k now i
         by_touch false is =
-            fr-kept k past d (What.Done op false) i refl (λ h is. refl) (free-mono k past (entry_by d (What.Done op false)) (done-stays k l past d op false all m) (λ g a b x. x))
+            free-at-kept k past d (What.Done op false) i refl (λ h is. refl) (free-mono k past (entry_by d (What.Done op false)) (done-stays k l past d op false all m) (λ g a b x. x))
             (old (sym (untouched (map freed_move ns) (pool_steps k past) i is) ∙ free))
         by_touch true is = let t = touched-note ns i is in again false t.handle t.among t.index (λ s o notes same dn. refl)
-fr-next k l past d (What.Notify g a) i lt all m sit old free = by_touch (touches (map freed_move ns) i) refl
+free-at-next k l past d (What.Notify g a) i lt all m sit old free = by_touch (touches (map freed_move ns) i) refl
   where
     now : Past
     now = entry_by d (What.Notify g a) ∷ past
@@ -541,9 +541,9 @@ fr-next k l past d (What.Notify g a) i lt all m sit old free = by_touch (touches
     noted : AllNoted k past ns
     noted = group-noted k past g.0 on.0 sit
 
-    by_touch : (b : Bool) → touches (map freed_move ns) i ≡ b → Fr k now i
+    by_touch : (b : Bool) → touches (map freed_move ns) i ≡ b → FreeAt k now i
     by_touch false is =
-        fr-kept k past d (What.Notify g a) i refl (λ h is. refl) (free-mono k past (entry_by d (What.Notify g a)) (λ n b x. x) (notify-stays k l past d g a all m))
+        free-at-kept k past d (What.Notify g a) i refl (λ h is. refl) (free-mono k past (entry_by d (What.Notify g a)) (λ n b x. x) (notify-stays k l past d g a all m))
         (old (sym (untouched (map (note_move k now) ns) (pool_steps k past) i (same-touches k now ns i ∙ is)) ∙ free))
     by_touch true is =
         let t = note-free k past now d ns i ((applied-spent k l past all g.0).once) noted is free in
@@ -557,7 +557,7 @@ fr-next k l past d (What.Notify g a) i lt all m sit old free = by_touch (touches
         let ended : application_end now b.group.0 b.app ≡ Some true = rw (eq-eqb g.0 b.group.0 (sym b.same_group), eq-eqb a b.app (sym (eqb-eq _ a on.1) ∙ sym b.number)) refl in
         Again t.handle mi.0 s (ap (last_handle past) (sym t.index) ∙ (noted t.handle t.among).last) mi.1 b.spent
         (ap (noted_free k now t.handle b.notes) ended ∙ (ap (completed_free k now t.handle) at ∙ and_from _ _ inside t.output))
-fr-next k l past d (What.Abort g) i lt all m sit old free = by_touch (touches (map freed_move ns) i) refl
+free-at-next k l past d (What.Abort g) i lt all m sit old free = by_touch (touches (map freed_move ns) i) refl
   where
     now : Past
     now = entry_by d (What.Abort g) ∷ past
@@ -568,9 +568,9 @@ fr-next k l past d (What.Abort g) i lt all m sit old free = by_touch (touches (m
     noted : AllNoted k past ns
     noted = group-noted k past g.0 m.busy sit
 
-    by_touch : (b : Bool) → touches (map freed_move ns) i ≡ b → Fr k now i
+    by_touch : (b : Bool) → touches (map freed_move ns) i ≡ b → FreeAt k now i
     by_touch false is =
-        fr-kept k past d (What.Abort g) i refl (λ h is. refl) (free-mono k past (entry_by d (What.Abort g)) (λ n b x. x) (abort-stays k l past d g all m.busy))
+        free-at-kept k past d (What.Abort g) i refl (λ h is. refl) (free-mono k past (entry_by d (What.Abort g)) (λ n b x. x) (abort-stays k l past d g all m.busy))
         (old (sym (untouched (map freed_move ns) (pool_steps k past) i is) ∙ free))
     by_touch true is =
         let t = touched-note ns i is in
@@ -580,10 +580,10 @@ fr-next k l past d (What.Abort g) i lt all m sit old free = by_touch (touches (m
         let here : applications past b.group.0 ≡ b.app = ap (applications past) b.same_group ∙ sym b.number in
         let ended : application_end now b.group.0 b.app ≡ Some false = rw (eq-eqb g.0 b.group.0 (sym b.same_group), eq-eqb (applications past b.group.0) b.app here) refl in
         Again t.handle mi.0 s (ap (last_handle past) (sym t.index) ∙ (noted t.handle t.among).last) mi.1 b.spent (ap (noted_free k now t.handle b.notes) ended)
-fr-next k l past d w i lt all m sit old free =
-    fr-kept k past d w i refl (λ h is. refl) (λ h v x. free-pull k (entry_by d w ∷ past) past h v (λ q e. e) (λ n. refl) (λ g a. refl) x) (old free)
+free-at-next k l past d w i lt all m sit old free =
+    free-at-kept k past d w i refl (λ h is. refl) (λ h v x. free-pull k (entry_by d w ∷ past) past h v (λ q e. e) (λ n. refl) (λ g a. refl) x) (old free)
 
-pub fr-all : (k : Declarations) (l : Limits) (past : Past) (i : ℕ) → HasSmallIndices k → AllAllowed k l past → spot (pool_steps k past) i ≡ Place.Free → Fr k past i
-fr-all k l [] i small all free = Never refl
-fr-all k l (e ∷ past) i small all free =
-    fr-next k l past e.core.0 e.what i all.0.core all.1 (allowed-moment k l past e all.1 all.0) (parked-sit k l past small all.1) (fr-all k l past i small all.1) free
+pub free-at : (k : Declarations) (l : Limits) (past : Past) (i : ℕ) → HasSmallIndices k → AllAllowed k l past → spot (pool_steps k past) i ≡ Place.Free → FreeAt k past i
+free-at k l [] i small all free = Never refl
+free-at k l (e ∷ past) i small all free =
+    free-at-next k l past e.core.0 e.what i all.0.core all.1 (allowed-moment k l past e all.1 all.0) (parked-sit k l past small all.1) (free-at k l past i small all.1) free

@@ -18,7 +18,7 @@ use Rattle.em_parts.specs.PoolSteps.{pool_steps}
 use Rattle.em_pool.specs.Spots.{spot}
 use Rattle.em_places.specs.Parked.{completed_free, noted_free, free_after}
 use Rattle.em_places.proofs.Parked.{free-is-free}
-use Rattle.em_places.proofs.FreeIndices.{Fr, Never, Again, fr-all}
+use Rattle.em_places.proofs.FreeIndices.{FreeAt, Never, Again, free-at}
 
 out-free : (k : Declarations) (past : Past) (h q : ℕ) (p : log.Place) → (log.has_entered k past h q && is_output (kind_of k q)) ≡ true
     → log.is_free (if log.has_entered k past h q then log.entered_place k past h q else p) ≡ true
@@ -43,9 +43,9 @@ after-is k past h before d (What.Begin op job notes) free = noted-is k past h no
 after-is k past h before d (What.Apply g a n notes) free = noted-is k past h notes (log.application_end past g.0 a) free
 after-is k past h before d w free = absurd cc
 
-fr-free : (k : Declarations) (past : Past) (i : ℕ) → Fr k past i → log.is_free (log.place k past i) ≡ true
-fr-free k past i (Never none) = ap (λ o. log.is_free (log.place_by k past o)) none
-fr-free k past i (Again h m s last minted spent free) =
+free-at-free : (k : Declarations) (past : Past) (i : ℕ) → FreeAt k past i → log.is_free (log.place k past i) ≡ true
+free-at-free k past i (Never none) = ap (λ o. log.is_free (log.place_by k past o)) none
+free-at-free k past i (Again h m s last minted spent free) =
     ap (λ o. log.is_free (log.place_by k past o)) last
     ∙ (ap (λ o. log.is_free (log.place_of k past h o (spending past h))) minted
     ∙ (ap (λ o. log.is_free (log.place_of k past h (Some m) o)) spent ∙ after-is k past h s.before s.core s.what free))
@@ -60,7 +60,7 @@ frees-alike k l past small all i = by_spot (pool.is_free (spot (pool_steps k pas
   where
     by_spot : (a : Bool) → pool.is_free (spot (pool_steps k past) i) ≡ a → (b : Bool) → log.is_free (log.place k past i) ≡ b → pool.is_free (spot (pool_steps k past) i) ≡ log.is_free (log.place k past i)
     by_spot true a b e =
-        let is = spot-free (spot (pool_steps k past) i) a in a ∙ sym (fr-free k past i (fr-all k l past i small all is))
+        let is = spot-free (spot (pool_steps k past) i) a in a ∙ sym (free-at-free k past i (free-at k l past i small all is))
     by_spot false a true e =
         let is = free-is-free k l past small all i e in
         let on : pool.is_free (spot (pool_steps k past) i) ≡ true = ap pool.is_free is in absurd (cc (on, a))
