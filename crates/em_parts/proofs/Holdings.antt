@@ -1,5 +1,6 @@
 -- What a core holds by a history is what it holds by the steps of the pools.
-use Rattle.std.proofs.Common.{◌≡◌, ℕ, ◌==◌, Bool, true, false, [], ◌∷◌, ◌++◌, List, Option, Some, None, refl, sym, ◌∙◌, subst, ap, if◌then◌else◌}
+use Rattle.std.proofs.Common.{◌≡◌, ℕ, ◌==◌, Bool, true, false, [], ◌∷◌, ◌++◌, List, Option, Some, None, refl, ◌∙◌, subst, ap, if◌then◌else◌}
+use Rattle.em_laws.proofs.Usable.{closed-held}
 use Rattle.em_log.specs.declared.declarations.Declarations.{Declarations}
 use Rattle.em_log.specs.declared.entry.Body.{Body}
 use Rattle.em_log.specs.declared.entry.Event.{Event}
@@ -8,37 +9,13 @@ use Rattle.em_log.specs.declared.ids.Limits.{Limits}
 use Rattle.em_log.specs.declared.ids.Note.{Note}
 use Rattle.em_log.specs.History.{Past, names, note_words, without, without_all}
 use Rattle.em_log.specs.Handles as log
-use Rattle.em_log.specs.Contexts.{context, context_after}
+use Rattle.em_log.specs.Contexts.{context}
 use Rattle.em_log.specs.Lawful.{AllAllowed}
 use Rattle.em_moments.proofs.Moments.{Moment, EnterMoment, EntersBoot, EntersStep, allowed-moment}
-use Rattle.em_laws.proofs.Cores.{none-some, compared, Compared, Same, Other}
+use Rattle.em_laws.proofs.Cores.{compared, Compared, Same, Other}
 use Rattle.em_pool.specs.Steps.{PoolStep, held}
 use Rattle.em_parts.specs.PoolSteps.{moves, direct, minted_steps, noted_steps, pool_steps}
 use Rattle.em_parts.proofs.StepLemmas.{moved-held, noted-held}
-
--- a core with no open context holds nothing
-
-without-nothing : (ns : List ℕ) → without_all ns [] ≡ []
-without-nothing [] = refl
-without-nothing (n ∷ ns) = without-nothing ns
-
--- after an entry of its own
-own-closed : (past : Past) (c : ℕ) (w : What) → (context past c ≡ None → log.held past c ≡ []) → context_after w (context past c) ≡ None
-    → log.held_after w (context past c) (without_all (names w) (log.held past c)) ≡ []
-own-closed past c (What.Enter b) before none = refl
-own-closed past c (What.Start q e s) before none = absurd (none-some _ (sym none))
-own-closed past c (What.End lost cells) before none = refl
-own-closed past c w before none =
-    let e = before none in rw (none, e) (without-nothing (names w))
-
-pub closed-held : (past : Past) (c : ℕ) → context past c ≡ None → log.held past c ≡ []
-closed-held [] c none = refl
-closed-held (e ∷ past) c none = by_core (e.core.0 == c) (closed-held past c) none
-  where
-    by_core : (b : Bool) → (context past c ≡ None → log.held past c ≡ []) → (if b then context_after e.what (context past c) else context past c) ≡ None
-        → (if b then log.held_after e.what (context past c) (without_all (names e.what) (log.held past c)) else without_all (names e.what) (log.held past c)) ≡ []
-    by_core true before none = own-closed past c e.what before none
-    by_core false before none = let h = before none in rw h (without-nothing (names e.what))
 
 -- mintings
 

@@ -2,6 +2,5 @@ pub mod StepLemmas
 pub mod Mintings
 pub mod Holdings
 pub mod Spendings
-pub mod Unspent
 pub mod QueueLists
 pub mod Untouched

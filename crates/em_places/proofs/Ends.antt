@@ -1,5 +1,5 @@
 -- Parked handles sit after ends of contexts and of tickets.
-use Rattle.std.proofs.Common.{◌≡◌, ℕ, ◌==◌, Bool, true, false, List, ◌∷◌, length, map, Option, Some, None, refl, sym, ◌∙◌, subst, ap, if◌then◌else◌}
+use Rattle.std.proofs.Common.{◌≡◌, ℕ, ◌==◌, Bool, true, false, List, ◌∷◌, length, map, Option, Some, None, is_none, refl, sym, ◌∙◌, subst, ap, if◌then◌else◌}
 use Rattle.em_log.specs.declared.declarations.Declarations.{Declarations}
 use Rattle.em_log.specs.declared.entry.What.{What}
 use Rattle.em_log.specs.declared.ids.Cells.{Cells}
@@ -9,7 +9,7 @@ use Rattle.em_log.specs.declared.ids.QueueId.{QueueId}
 use Rattle.em_log.specs.declared.ids.Stamp.{Stamp}
 use Rattle.em_log.specs.History.{Past, entry_by, has, index_of}
 use Rattle.em_log.specs.Declarations.{kind_of, is_output}
-use Rattle.em_log.specs.Handles.{Minting, minting, last_handle, Spending, spending, held}
+use Rattle.em_log.specs.Handles.{Minting, minting, last_handle, Spending, spending, held, rule}
 use Rattle.em_log.specs.Order.{Sent, open_ticket, ticket_of_send, enters, let_in}
 use Rattle.em_log.specs.Places.{waiting, taken, has_item}
 use Rattle.em_log.specs.Lawful.{AllAllowed}
@@ -28,7 +28,7 @@ use Rattle.em_places.proofs.Moves.{touches, untouched, moved-to, sents-to, touch
 use Rattle.em_places.proofs.FreeAfter.{FreeNow, FreeBefore, CameOut, free-now}
 use Rattle.em_places.proofs.Unmoved.{same-handle, same-place, not-before, delayed-inj}
 use Rattle.em_places.proofs.Spending.{spent-none, SpentBy, SpentBefore, SpentNow, spent-some}
-use Rattle.em_parts.proofs.Unspent.{held-unspent}
+use Rattle.em_laws.proofs.Usable.{Usable}
 use Rattle.em_arrivals.proofs.Lists.{came, AllSent, all-map, InEither, InFirst, InSecond, in-either}
 
 pub record LetSits (k : Declarations) (past : Past) (base : List PoolStep) (ms : List Move) (h : ℕ) (p : Place) : Type 0 where
@@ -141,9 +141,9 @@ sits-end_ordered k l past d all m older h p parked = by_parked parked
     by_parked (InObject x there eq) = other (InObject x there eq) (λ s i same z. absurd (cc (eq, z)))
     by_parked (InPool v s last is spent free eq) = by_free v s last is spent eq (free-now k past (entry_by d What.EndOrdered) h s.what (λ n. refl) (λ g a. refl) free)
 
-pub sits-end : (k : Declarations) (l : Limits) (past : Past) (d lost : ℕ) (cells : Option Cells) → AllAllowed k l past → Moment k l past d (What.End lost cells) → AllSit k past
+pub sits-end : (k : Declarations) (l : Limits) (past : Past) (d lost : ℕ) (cells : Option Cells) → AllAllowed k l past → Usable past → Moment k l past d (What.End lost cells) → AllSit k past
     → AllSit k (entry_by d (What.End lost cells) ∷ past)
-sits-end k l past d lost cells all m older h p parked = by_parked parked
+sits-end k l past d lost cells all usable m older h p parked = by_parked parked
   where
     w : What
     w = What.End lost cells
@@ -176,7 +176,7 @@ sits-end k l past d lost cells all m older h p parked = by_parked parked
     by_order s f q t st (SpentNow b is) what off eq = absurd (let e : w ≡ What.Send f q t st = sym (ap (λ (v : Spending). v.what) is) ∙ what in cc e)
 
     by_context : (v : Minting) → minting past h ≡ Some v → (has (held past d) h ≡ false) × (spending past h ≡ None) → p ≡ Place.Held (record { 0 = v.core }) → Compared v.core d → Sits k now h p
-    by_context v is both eq (Same t same) = absurd (let on = held-unspent k l past d h v all is same both.1 in cc (on, both.0))
+    by_context v is both eq (Same t same) = absurd (let on = usable.held d h in let ok : is_none (rule past d h) ≡ true = rw (is, both.1, t) refl in cc (on, ok, both.0))
     by_context v is both eq (Other t ne) = other (InContext v is both.1 eq) (ap (is_held_by d) eq ∙ t) (λ s i same z. absurd (cc (eq, z)))
 
     by_pool : (v : Minting) (s : Spending) → last_handle past (index_of h) ≡ Some h → minting past h ≡ Some v → SpentBy past (entry_by d w) (has (held past d) h) (spending past h) s

@@ -1,5 +1,6 @@
 -- Parked handles sit after each entry.
 use Rattle.std.proofs.Common.{◌≡◌, ℕ, suc, ◌≤◌, ◌==◌, Bool, true, false, List, [], ◌∷◌, ◌++◌, drop, Some, None, refl, sym, ◌∙◌, subst, ap, if◌then◌else◌, arith}
+use Rattle.em_laws.proofs.Usable.{usable-after}
 use Rattle.std.proofs.lemmas.Bool.{false_from_ne_true}
 use Rattle.em_log.specs.declared.declarations.Declarations.{Declarations}
 use Rattle.em_log.specs.declared.entry.What.{What}
@@ -88,17 +89,17 @@ MintsFresh past w = (e : Event) → minted_in w ≡ Some e → AreDifferent (e.h
 pub next-sits : (k : Declarations) (l : Limits) (past : Past) (d : ℕ) (w : What) → HasSmallIndices k → AllAllowed k l past → Moment k l past d w → MintsFresh past w → FreeAlike k past → KeptOnce k past
     → AllSit k past → AllSit k (entry_by d w ∷ past)
 next-sits k l past d (What.Take r n t) small all m fresh free once older = sits-take k l past d r n t all m older
-next-sits k l past d (What.Start r e st) small all m fresh free once older = sits-start k l past d r e st all m (mint-unspent k l past e all (fresh e refl)) older
+next-sits k l past d (What.Start r e st) small all m fresh free once older = sits-start k l past d r e st all m (mint-unspent past e (usable-after k l past small all) (fresh e refl)) older
 next-sits k l past d (What.Untake r n) small all m fresh free once older = sits-untake k l past d r n all m older
-next-sits k l past d (What.End lost cells) small all m fresh free once older = sits-end k l past d lost cells all m older
+next-sits k l past d (What.End lost cells) small all m fresh free once older = sits-end k l past d lost cells all (usable-after k l past small all) m older
 next-sits k l past d (What.EndAtomic rest cells) small all m fresh free once older = sits-end_atomic k l past d rest cells all m older
 next-sits k l past d What.EndOrdered small all m fresh free once older = sits-end_ordered k l past d all m older
-next-sits k l past d (What.Alloc a e) small all m fresh free once older = sits-alloc k past d a e small m free (mint-unspent k l past e all (fresh e refl)) older
+next-sits k l past d (What.Alloc a e) small all m fresh free once older = sits-alloc k past d a e small m free (mint-unspent past e (usable-after k l past small all) (fresh e refl)) older
 next-sits k l past d (What.Free f) small all m fresh free once older = sits-free k past d f m older
 next-sits k l past d (What.Send f q t st) small all m fresh free once older = sits-send k l past d f q t st all m older
 next-sits k l past d (What.Keep f) small all m fresh free once older = sits-keep k past d f m older
-next-sits k l past d (What.Claim (Some e)) small all m fresh free once older = sits-claim k past d e m once (mint-unspent k l past e all (fresh e refl)) older
-next-sits k l past d (What.Dequeue r (Some e)) small all m fresh free once older = sits-dequeue k l past d r e all m (mint-unspent k l past e all (fresh e refl)) older
+next-sits k l past d (What.Claim (Some e)) small all m fresh free once older = sits-claim k past d e m once (mint-unspent past e (usable-after k l past small all) (fresh e refl)) older
+next-sits k l past d (What.Dequeue r (Some e)) small all m fresh free once older = sits-dequeue k l past d r e all m (mint-unspent past e (usable-after k l past small all) (fresh e refl)) older
 next-sits k l past d (What.Begin op job notes) small all m fresh free once older =
     sits-begin k past d op job notes m (not-done-yet k l past op.0 all (ap (λ (o : OpId). o.0) m.number)) older
 next-sits k l past d (What.Done op ok) small all m fresh free once older = sits-done k l past d op ok all m older

@@ -1,5 +1,6 @@
 -- An event that is free by the steps is free by the history.
 use Rattle.std.proofs.Common.{◌≡◌, ℕ, zero, suc, ◌+◌, ◌≤◌, ◌<◌, ◌==◌, Bool, true, false, not, ◌&&◌, ◌||◌, List, [], ◌∷◌, ◌++◌, length, map, take, Option, Some, None, refl, sym, ◌∙◌, subst, ap, if◌then◌else◌, arith}
+use Rattle.em_laws.proofs.Usable.{Usable, usable-after}
 use Rattle.std.proofs.lemmas.Bool.{or_left, or_right, and_from}
 use Rattle.std.specs.List.{list_any}
 use Rattle.std.proofs.lemmas.Bool.{eq-eqb}
@@ -229,13 +230,13 @@ entry-free k q e = by_kind (is_output (kind_of k q)) e
     by_kind true e = refl
     by_kind false e = absurd cc
 
-let-free : (k : Declarations) (l : Limits) (past now : Past) (o : Option Ticket) (base : List PoolStep) (i : ℕ) → AllAllowed k l past → AllSit k past → touches (map (sent_move k) (let_in past now o)) i ≡ true
+let-free : (k : Declarations) (l : Limits) (past now : Past) (o : Option Ticket) (base : List PoolStep) (i : ℕ) → AllAllowed k l past → Usable past → AllSit k past → touches (map (sent_move k) (let_in past now o)) i ≡ true
     → spot (moved (map (sent_move k) (let_in past now o)) base) i ≡ Place.Free → LetFree k past now (let_in past now o) i
-let-free k l past now o base i all older touched free =
+let-free k l past now o base i all uses older touched free =
     let ss : List Sent = let_in past now o in
     let lets = let-in-all k l past now o all in
     let well : AllSent (IsWell k past) ss = all-map (λ s. LetIn past now s × (s.core < k.cores)) (IsWell k past) ss (λ s b.
-    let m = spent-minted k l past s.handle b.0.sent.how all b.0.sent.spent in record { origin = m.0; minted = m.1; core = b.1 }) (all-both (LetIn past now) (λ s. s.core < k.cores) ss lets (let-cores k l past now o all)) in
+    let m = spent-minted past s.handle b.0.sent.how uses b.0.sent.spent in record { origin = m.0; minted = m.1; core = b.1 }) (all-both (LetIn past now) (λ s. s.core < k.cores) ss lets (let-cores k l past now o all)) in
     let both = all-both (LetIn past now) (λ s. IsWell k past s × IsIn k past ss s) ss lets (all-both (IsWell k past) (IsIn k past ss) ss well (all-in k past ss well)) in
     let t = touched-sent k (λ s. LetIn past now s × (IsWell k past s × IsIn k past ss s)) ss i both touched in
     let moves = let-enters k past now ss base t.sent t.sent.handle lets older t.holds.0 refl (ap (touches (map (sent_move k) ss)) t.index ∙ touched) in
@@ -327,30 +328,30 @@ note-free k past now d ns i once noted touched free =
 
 -- every entry
 
-free-at-next : (k : Declarations) (l : Limits) (past : Past) (d : ℕ) (w : What) (i : ℕ) → d < k.cores → AllAllowed k l past → Moment k l past d w → AllSit k past → (spot (pool_steps k past) i ≡ Place.Free → FreeAt k past i)
+free-at-next : (k : Declarations) (l : Limits) (past : Past) (d : ℕ) (w : What) (i : ℕ) → d < k.cores → AllAllowed k l past → Usable past → Moment k l past d w → AllSit k past → (spot (pool_steps k past) i ≡ Place.Free → FreeAt k past i)
     → spot (pool_steps k (entry_by d w ∷ past)) i ≡ Place.Free → FreeAt k (entry_by d w ∷ past) i
-free-at-next k l past d (What.Take r n t) i lt all m sit old free =
+free-at-next k l past d (What.Take r n t) i lt all uses m sit old free =
     free-at-kept k past d (What.Take r n t) i refl (λ h is. refl) (λ h v f. free-pull k (entry_by d (What.Take r n t) ∷ past) past h v (λ q e. e) (λ n. refl) (λ g a. refl) f)
     (old (items-back k past (Place.Taken (record { 0 = d })) (take n (waiting k past r.0 d)) i (λ e. absurd (cc e)) free))
-free-at-next k l past d (What.Untake r n) i lt all m sit old free =
+free-at-next k l past d (What.Untake r n) i lt all uses m sit old free =
     free-at-kept k past d (What.Untake r n) i refl (λ h is. refl) (λ h v f. free-pull k (entry_by d (What.Untake r n) ∷ past) past h v (λ q e. e) (λ n. refl) (λ g a. refl) f)
     (old (items-back k past (Place.Waiting r) (taken k past d) i (λ e. absurd (cc e)) free))
-free-at-next k l past d (What.EndAtomic rest cells) i lt all m sit old free =
+free-at-next k l past d (What.EndAtomic rest cells) i lt all uses m sit old free =
     free-at-kept k past d (What.EndAtomic rest cells) i refl (λ h is. refl) (λ h v f. free-pull k (entry_by d (What.EndAtomic rest cells) ∷ past) past h v (λ q e. e) (λ n. refl) (λ g a. refl) f)
     (old (by_queue (receives_from past d) free))
   where
     by_queue : (o : Option ℕ) → spot (moved (back_moves o (taken k past d)) (pool_steps k past)) i ≡ Place.Free → spot (pool_steps k past) i ≡ Place.Free
     by_queue None f = f
     by_queue (Some r) f = items-back k past (Place.Waiting (record { 0 = r })) (taken k past d) i (λ e. absurd (cc e)) f
-free-at-next k l past d (What.Start r e st) i lt all m sit old free =
+free-at-next k l past d (What.Start r e st) i lt all uses m sit old free =
     mint-back k past d (What.Start r e st) e i (λ h v f. free-pull k (entry_by d (What.Start r e st) ∷ past) past h v (λ q e. e) (λ n. refl) (λ g a. refl) f) (λ j. refl) (λ h. refl) old free
-free-at-next k l past d (What.Alloc a e) i lt all m sit old free =
+free-at-next k l past d (What.Alloc a e) i lt all uses m sit old free =
     mint-back k past d (What.Alloc a e) e i (λ h v f. free-pull k (entry_by d (What.Alloc a e) ∷ past) past h v (λ q e. e) (λ n. refl) (λ g a. refl) f) (λ j. refl) (λ h. refl) old free
-free-at-next k l past d (What.Claim (Some e)) i lt all m sit old free =
+free-at-next k l past d (What.Claim (Some e)) i lt all uses m sit old free =
     mint-back k past d (What.Claim (Some e)) e i (λ h v f. free-pull k (entry_by d (What.Claim (Some e)) ∷ past) past h v (λ q e. e) (λ n. refl) (λ g a. refl) f) (λ j. refl) (λ h. refl) old free
-free-at-next k l past d (What.Dequeue r (Some e)) i lt all m sit old free =
+free-at-next k l past d (What.Dequeue r (Some e)) i lt all uses m sit old free =
     mint-back k past d (What.Dequeue r (Some e)) e i (λ h v f. free-pull k (entry_by d (What.Dequeue r (Some e)) ∷ past) past h v (λ q e. e) (λ n. refl) (λ g a. refl) f) (λ j. refl) (λ h. refl) old free
-free-at-next k l past d (What.Free f) i lt all m sit old free = by_test (compared (index_of f.0) i)
+free-at-next k l past d (What.Free f) i lt all uses m sit old free = by_test (compared (index_of f.0) i)
   where
     w : What
     w = What.Free f
@@ -363,7 +364,7 @@ free-at-next k l past d (What.Free f) i lt all m sit old free = by_test (compare
         (spends-now past d w f.0 u.unspent (rw (eq-eqb f.0 f.0 refl) refl)) refl
     by_test (Other t ne) =
         free-at-kept k past d w i refl (λ h is. refl) (λ h v x. free-pull k (entry_by d w ∷ past) past h v (λ q e. e) (λ n. refl) (λ g a. refl) x) (old (rw t at free))
-free-at-next k l past d (What.Keep f) i lt all m sit old free = by_test (compared (index_of f.0) i)
+free-at-next k l past d (What.Keep f) i lt all uses m sit old free = by_test (compared (index_of f.0) i)
   where
     w : What
     w = What.Keep f
@@ -372,7 +373,7 @@ free-at-next k l past d (What.Keep f) i lt all m sit old free = by_test (compare
     by_test (Same t e) = absurd (let h : Place.Kept _ ≡ Place.Free = rw t at free in cc h)
     by_test (Other t ne) =
         free-at-kept k past d w i refl (λ h is. refl) (λ h v x. free-pull k (entry_by d w ∷ past) past h v (λ q e. e) (λ n. refl) (λ g a. refl) x) (old (rw t at free))
-free-at-next k l past d (What.Send f q t st) i lt all m sit old free = by_test (compared (index_of f.0) i)
+free-at-next k l past d (What.Send f q t st) i lt all uses m sit old free = by_test (compared (index_of f.0) i)
   where
     w : What
     w = What.Send f q t st
@@ -408,7 +409,7 @@ free-at-next k l past d (What.Send f q t st) i lt all m sit old free = by_test (
     by_test (Same te same) = own same te (enters past (ticket_of_send past d t)) (is_output (kind_of k q.0)) refl refl free
     by_test (Other te ne) =
         free-at-kept k past d w i refl (λ h is. refl) (free-mono k past e (λ n b x. x) (λ g a b x. x)) (old (other te (enters past (ticket_of_send past d t)) (is_output (kind_of k q.0)) refl free))
-free-at-next k l past d (What.End lost cells) i lt all m sit old free = by_touch (touches (map (sent_move k) ss) i) refl
+free-at-next k l past d (What.End lost cells) i lt all uses m sit old free = by_touch (touches (map (sent_move k) ss) i) refl
   where
     w : What
     w = What.End lost cells
@@ -431,11 +432,11 @@ free-at-next k l past d (What.End lost cells) i lt all m sit old free = by_touch
         free-at-kept k past d w i refl (λ h is. refl) (free-mono k past (entry_by d w) (λ n b x. x) (λ g a b x. x))
         (old (by_held (is_held_by d (spot (pool_steps k past) i)) (sym (untouched (map (sent_move k) ss) base i is) ∙ free)))
     by_touch true is =
-        let t = let-free k l past now (open_ticket past d) base i all sit is free in
+        let t = let-free k l past now (open_ticket past d) base i all uses sit is free in
         let sits = let-delayed k past now t.sent t.let_in sit in
         Again t.sent.handle t.well.origin t.let_in.sent.how (ap (last_handle past) (sym t.index) ∙ sits.last) t.well.minted (spending-kept past d w t.sent.handle t.let_in.sent.how t.let_in.sent.spent)
         (let-again k past (entry_by d w) ss i refl t)
-free-at-next k l past d What.EndOrdered i lt all m sit old free = by_touch (touches (map (sent_move k) ss) i) refl
+free-at-next k l past d What.EndOrdered i lt all uses m sit old free = by_touch (touches (map (sent_move k) ss) i) refl
   where
     w : What
     w = What.EndOrdered
@@ -450,11 +451,11 @@ free-at-next k l past d What.EndOrdered i lt all m sit old free = by_touch (touc
     by_touch false is =
         free-at-kept k past d w i refl (λ h is. refl) (free-mono k past (entry_by d w) (λ n b x. x) (λ g a b x. x)) (old (sym (untouched (map (sent_move k) ss) (pool_steps k past) i is) ∙ free))
     by_touch true is =
-        let t = let-free k l past now (open_ticket past d) (pool_steps k past) i all sit is free in
+        let t = let-free k l past now (open_ticket past d) (pool_steps k past) i all uses sit is free in
         let sits = let-delayed k past now t.sent t.let_in sit in
         Again t.sent.handle t.well.origin t.let_in.sent.how (ap (last_handle past) (sym t.index) ∙ sits.last) t.well.minted (spending-kept past d w t.sent.handle t.let_in.sent.how t.let_in.sent.spent)
         (let-again k past (entry_by d w) ss i refl t)
-free-at-next k l past d (What.Begin op job notes) i lt all m sit old free = by_touch (touches (map freed_move notes) i) refl
+free-at-next k l past d (What.Begin op job notes) i lt all uses m sit old free = by_touch (touches (map freed_move notes) i) refl
   where
     w : What
     w = What.Begin op job notes
@@ -464,7 +465,7 @@ free-at-next k l past d (What.Begin op job notes) i lt all m sit old free = by_t
     by_touch false is =
         free-at-kept k past d w i refl (λ h is. refl) (λ h v x. free-pull k (entry_by d w ∷ past) past h v (λ q e. e) (λ n. refl) (λ g a. refl) x)
         (old (sym (noted-untouched d (length past) notes (pool_steps k past) i is) ∙ free))
-free-at-next k l past d (What.Apply g a c notes) i lt all m sit old free = by_touch (touches (map freed_move notes) i) refl
+free-at-next k l past d (What.Apply g a c notes) i lt all uses m sit old free = by_touch (touches (map freed_move notes) i) refl
   where
     w : What
     w = What.Apply g a c notes
@@ -474,7 +475,7 @@ free-at-next k l past d (What.Apply g a c notes) i lt all m sit old free = by_to
     by_touch false is =
         free-at-kept k past d w i refl (λ h is. refl) (λ h v x. free-pull k (entry_by d w ∷ past) past h v (λ q e. e) (λ n. refl) (λ g a. refl) x)
         (old (sym (noted-untouched d (length past) notes (pool_steps k past) i is) ∙ free))
-free-at-next k l past d (What.Done op ok) i lt all m sit old free = by_ok ok refl m free
+free-at-next k l past d (What.Done op ok) i lt all uses m sit old free = by_ok ok refl m free
   where
     ns : List Note
     ns = notes_of (operation past op.0)
@@ -492,7 +493,7 @@ free-at-next k l past d (What.Done op ok) i lt all m sit old free = by_ok ok ref
     again ok f there index freed =
         let b = (notes-spent k l past all op.0 q.started q.begun).spent f (sym (ap (λ o. has (note_words (notes_of o)) f) q.begun) ∙ there) in
         let s : Spending = record { before = b.before; core = b.core; what = What.Begin b.op b.job b.notes } in
-        let mi = spent-minted k l past f s all b.spent in
+        let mi = spent-minted past f s uses b.spent in
         let bo = begun-of k l past f s b.op b.job b.notes all b.spent refl in
         let same : b.notes ≡ ns = sym bo.2 ∙ (ap notes_of (sym bo.1) ∙ ap (λ (n : ℕ). notes_of (operation past n)) b.number) in
         let now : done (entry_by d (What.Done op ok) ∷ past) b.op.0 ≡ Some ok = rw (eq-eqb op.0 b.op.0 (sym b.number)) refl in
@@ -513,7 +514,7 @@ free-at-next k l past d (What.Done op ok) i lt all m sit old free = by_ok ok ref
             let t = note-free k past now d ns i (done-once k l past op.0 all q) noted is free in
             again true t.handle t.among t.index (λ s o notes same dn.
             let b = (notes-spent k l past all op.0 q.started q.begun).spent t.handle (sym (ap (λ v. has (note_words (notes_of v)) t.handle) q.begun) ∙ t.among) in
-            let mi = spent-minted k l past t.handle _ all b.spent in
+            let mi = spent-minted past t.handle _ uses b.spent in
             let inside = came-enters k past (entry_by d (What.Done op true)) t.handle t.queue d lt (notes-came k past now d ns t.handle t.queue mi.0 t.to t.unclosed mi.1) in
             let at : note_queue t.handle notes ≡ Some t.queue = ap (note_queue t.handle) same ∙ t.to in
             ap (completed_free k now t.handle) at ∙ and_from _ _ inside t.output)
@@ -527,7 +528,7 @@ free-at-next k l past d (What.Done op ok) i lt all m sit old free = by_ok ok ref
             free-at-kept k past d (What.Done op false) i refl (λ h is. refl) (free-mono k past (entry_by d (What.Done op false)) (done-stays k l past d op false all m) (λ g a b x. x))
             (old (sym (untouched (map freed_move ns) (pool_steps k past) i is) ∙ free))
         by_touch true is = let t = touched-note ns i is in again false t.handle t.among t.index (λ s o notes same dn. refl)
-free-at-next k l past d (What.Notify g a) i lt all m sit old free = by_touch (touches (map freed_move ns) i) refl
+free-at-next k l past d (What.Notify g a) i lt all uses m sit old free = by_touch (touches (map freed_move ns) i) refl
   where
     now : Past
     now = entry_by d (What.Notify g a) ∷ past
@@ -549,7 +550,7 @@ free-at-next k l past d (What.Notify g a) i lt all m sit old free = by_touch (to
         let t = note-free k past now d ns i ((applied-spent k l past all g.0).once) noted is free in
         let b = (applied-spent k l past all g.0).spent t.handle t.among in
         let s : Spending = record { before = b.before; core = b.core; what = What.Apply b.group b.app b.count b.notes } in
-        let mi = spent-minted k l past t.handle s all b.spent in
+        let mi = spent-minted past t.handle s uses b.spent in
         let here : applications past b.group.0 ≡ b.app = ap (applications past) b.same_group ∙ sym b.number in
         let list : ns ≡ b.notes = ap (applied_notes past) (sym b.same_group) ∙ applied-list k l past t.handle s b.group b.app b.count b.notes all b.spent refl here in
         let inside = came-enters k past (entry_by d (What.Notify g a)) t.handle t.queue d lt (notes-came k past now d ns t.handle t.queue mi.0 t.to t.unclosed mi.1) in
@@ -557,7 +558,7 @@ free-at-next k l past d (What.Notify g a) i lt all m sit old free = by_touch (to
         let ended : application_end now b.group.0 b.app ≡ Some true = rw (eq-eqb g.0 b.group.0 (sym b.same_group), eq-eqb a b.app (sym (eqb-eq _ a on.1) ∙ sym b.number)) refl in
         Again t.handle mi.0 s (ap (last_handle past) (sym t.index) ∙ (noted t.handle t.among).last) mi.1 b.spent
         (ap (noted_free k now t.handle b.notes) ended ∙ (ap (completed_free k now t.handle) at ∙ and_from _ _ inside t.output))
-free-at-next k l past d (What.Abort g) i lt all m sit old free = by_touch (touches (map freed_move ns) i) refl
+free-at-next k l past d (What.Abort g) i lt all uses m sit old free = by_touch (touches (map freed_move ns) i) refl
   where
     now : Past
     now = entry_by d (What.Abort g) ∷ past
@@ -576,14 +577,14 @@ free-at-next k l past d (What.Abort g) i lt all m sit old free = by_touch (touch
         let t = touched-note ns i is in
         let b = (applied-spent k l past all g.0).spent t.handle t.among in
         let s : Spending = record { before = b.before; core = b.core; what = What.Apply b.group b.app b.count b.notes } in
-        let mi = spent-minted k l past t.handle s all b.spent in
+        let mi = spent-minted past t.handle s uses b.spent in
         let here : applications past b.group.0 ≡ b.app = ap (applications past) b.same_group ∙ sym b.number in
         let ended : application_end now b.group.0 b.app ≡ Some false = rw (eq-eqb g.0 b.group.0 (sym b.same_group), eq-eqb (applications past b.group.0) b.app here) refl in
         Again t.handle mi.0 s (ap (last_handle past) (sym t.index) ∙ (noted t.handle t.among).last) mi.1 b.spent (ap (noted_free k now t.handle b.notes) ended)
-free-at-next k l past d w i lt all m sit old free =
+free-at-next k l past d w i lt all uses m sit old free =
     free-at-kept k past d w i refl (λ h is. refl) (λ h v x. free-pull k (entry_by d w ∷ past) past h v (λ q e. e) (λ n. refl) (λ g a. refl) x) (old free)
 
 pub free-at : (k : Declarations) (l : Limits) (past : Past) (i : ℕ) → HasSmallIndices k → AllAllowed k l past → spot (pool_steps k past) i ≡ Place.Free → FreeAt k past i
 free-at k l [] i small all free = Never refl
 free-at k l (e ∷ past) i small all free =
-    free-at-next k l past e.core.0 e.what i all.0.core all.1 (allowed-moment k l past e all.1 all.0) (parked-sit k l past small all.1) (free-at k l past i small all.1) free
+    free-at-next k l past e.core.0 e.what i all.0.core all.1 (usable-after k l past small all.1) (allowed-moment k l past e all.1 all.0) (parked-sit k l past small all.1) (free-at k l past i small all.1) free
