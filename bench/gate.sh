@@ -1,17 +1,17 @@
 #!/bin/sh
 # What the gate costs: proves each crate from nothing with its tests and its must-fail edits, one after the other, and prints a
 # table: lines, processor seconds of the proof, of the tests and of the edits, and the most memory that a process took.
-#   bench/gate.sh [-k] [-j PROCESSORS] [NAME..]
+#   bench/gate.sh [-k] [-s] [NAME..]
 # With names it proves these crates and those below them. With -k it takes what an earlier run kept, and measures the rest. What
-# passes is kept as by rt ci, so that a measured run costs the gate nothing twice. With -j crates are proved side by side: the
-# seconds stay about the same, and the whole takes less time. The status is that of rt ci.
+# passes is kept as by rt ci, so that a measured run costs the gate nothing twice. With -s crates are proved side by side, on all
+# processors: the seconds grow a little, and the whole takes less time. The status is that of rt ci.
 cd "$(dirname "$0")/.." || exit 1
 again=--anew
 jobs=1
-while getopts kj: flag; do
+while getopts ks flag; do
     case $flag in
     k) again= ;;
-    j) jobs=$OPTARG ;;
+    s) jobs= ;;
     *) exit 2 ;;
     esac
 done
@@ -121,6 +121,7 @@ def table(seconds, memory, said):
 
 
 environment = {**os.environ, "RT_JOBS": os.environ["JOBS"]}
+way = "one after the other" if os.environ["JOBS"] else "side by side"
 words = ["rt", "ci", *os.environ["AGAIN"].split(), *sys.argv[1:]]
 began = time.monotonic()
 with open(os.environ["LOG"], "wb") as log:
@@ -128,7 +129,7 @@ with open(os.environ["LOG"], "wb") as log:
     seconds, memory = watch(run)
 said = text_of(os.environ["LOG"])
 table(seconds, memory, said)
-print(f"minutes with {os.environ['JOBS']} at once, of {os.cpu_count()} processors: {(time.monotonic() - began) / 60:.0f}")
+print(f"minutes on {os.cpu_count()} processors, {way}: {(time.monotonic() - began) / 60:.0f}")
 if run.returncode:
     print(said, file=sys.stderr)
 print(said.splitlines()[-1] if said else "")
