@@ -26,6 +26,3 @@ mod words;
 pub use laws::{reading_undoes_printing, scripts_are_read, spellings_are_scripts};
 pub use printing::print;
 pub use reading::{ScriptEnd, parse};
-
-#[cfg(test)]
-mod tests;

@@ -1,5 +1,6 @@
 mod bodies;
 mod declarations;
+mod scripts;
 mod statements;
 
 use em_script::{ScriptEnd, parse};

@@ -13,6 +13,3 @@ pub use commands::{Command, Solo};
 pub use em_log::{CoreId, Gate, NoGate, QueueId};
 pub use plain::em_plain;
 pub use words::command;
-
-#[cfg(test)]
-mod tests;

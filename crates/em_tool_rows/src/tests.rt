@@ -1,4 +1,6 @@
-use em_io::{SureSink, SureSource};
+mod devices;
+
+use em_io::{Sink, Source, SureSink, SureSource};
 use em_tool::{NoGate, em_plain};
 use std::alloc::Global;
 use std::process::Abort;
@@ -7,15 +9,25 @@ use std::test::*;
 /// The words, the script, the status, and the whole text that is written.
 type Row = (&'static str, &'static str, u8, &'static str);
 
-/// The status of a call, and what it writes.
-fn call(alloc: Global, words: &str, script: Vec<u8>) -> Result<(u8, Vec<u8>), Fail> {
+/// What `em_plain` answers to these words.
+fn plain<S: Source, K: Sink>(
+    alloc: Global,
+    words: &str,
+    source: &mut S,
+    sink: &mut K,
+) -> Result<u8, Fail> {
     let mut list = Vec::new(alloc);
     for word in words.split_whitespace() {
         list.push(word.to_string(alloc)?)?;
     }
+    Ok(em_plain(alloc, list.as_slice(), source, sink, &NoGate))
+}
+
+/// The status of a call, and what it writes.
+fn call(alloc: Global, words: &str, script: Vec<u8>) -> Result<(u8, Vec<u8>), Fail> {
     let mut source = SureSource::new(script);
     let mut sink = SureSink::new(alloc);
-    let status = em_plain(alloc, list.as_slice(), &mut source, &mut sink, &NoGate);
+    let status = plain(alloc, words, &mut source, &mut sink)?;
     Ok((status, sink.bytes().to_vec(alloc)?))
 }
 
@@ -42,7 +54,7 @@ fn judge_rows(rt: &impl Abort, alloc: Global, rows: &[Row]) -> Result<(), Fail> 
     Ok(())
 }
 
-const WORDS_NOT_KNOWN: [Row; 6] = [
+const WORDS_NOT_KNOWN: [Row; 7] = [
     (
         "solo 10 1",
         "cores 1\npool p 1 1\neo x running\nqueue q parallel x normal all\nboot\nalloc v0 p 7 5\nsend v0 q\nend\nbody x receive\nsay word 0\nfree me\nend\ndone\n",
@@ -79,6 +91,7 @@ const WORDS_NOT_KNOWN: [Row; 6] = [
         2,
         "words not known\n",
     ),
+    ("check check", "", 2, "words not known\n"),
 ];
 
 const RUNS: [Row; 8] = [
@@ -147,7 +160,7 @@ const CHECKS: [Row; 2] = [
     ),
 ];
 
-const REFUSALS: [Row; 15] = [
+const REFUSALS: [Row; 16] = [
     (
         "solo 10 1 0",
         "cores 1\npool p 1 0\nbo",
@@ -155,6 +168,7 @@ const REFUSALS: [Row; 15] = [
         "refused line 3 rule 2\n",
     ),
     ("solo 10 1 0", "", 4, "refused line 1 rule 11\n"),
+    ("check", "", 4, "refused line 1 rule 11\n"),
     (
         "check",
         "cores\t1\nboot\nend\ndone\n",
@@ -237,12 +251,14 @@ fn rows(rt: HostRuntime) -> Result<(), Fail> {
 #[test]
 fn the_longest_inputs(rt: HostRuntime) -> Result<(), Fail> {
     let alloc = rt.alloc();
-    for (length, status, text) in [
-        (65536, 4, "refused line 2 rule 11\n"),
-        (65537, 6, "input too long\n"),
-    ] {
-        let bytes = vec![in alloc; b'#'; length]?;
-        judge(&rt, alloc, "solo 10 1 0", bytes, status, text)?;
+    for words in ["solo 10 1 0", "check"] {
+        for (length, status, text) in [
+            (65536, 4, "refused line 2 rule 11\n"),
+            (65537, 6, "input too long\n"),
+        ] {
+            let bytes = vec![in alloc; b'#'; length]?;
+            judge(&rt, alloc, words, bytes, status, text)?;
+        }
     }
     Ok(())
 }

@@ -1,4 +1,4 @@
-use Rattle.em_script.proofs.tests.canonical.Goals as goal
+use Rattle.em_script_rows.proofs.tests.scripts.canonical.Goals as goal
 
 pub print-requires : goal.print-requires
 print-requires c = c.in-Ok.ensures.found.0

@@ -1,16 +1,10 @@
+//! Whole scripts: read, refused, and written in their canonical spelling.
 ghost use Rattle.std.specs.Prelude.{None};
 
-use crate::{ScriptEnd, parse, print};
+use super::refusal;
+use em_script::{parse, print};
 use std::alloc::Global;
 use std::test::*;
-
-/// What a refused script is refused by: the line and the rule.
-fn refusal(alloc: Global, bytes: &[u8]) -> Option<(u64, u8)> {
-    match parse(alloc, bytes) {
-        Err(ScriptEnd::Refused { line, rule }) => Some((line, rule)),
-        _ => None,
-    }
-}
 
 /// The canonical spelling of a script.
 fn canonical(alloc: Global, bytes: &[u8]) -> Option<Vec<u8>> {
