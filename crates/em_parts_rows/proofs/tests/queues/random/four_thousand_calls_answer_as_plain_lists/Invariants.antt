@@ -1,0 +1,7 @@
+-- The numbers of cores, queues and events stay.
+use Rattle.std.proofs.Common.{◌≡◌}
+use Rattle.em_queues.specs.State.{shape}
+use Rattle.em_parts_rows.proofs.tests.queues.random.four_thousand_calls_answer_as_plain_lists.Given as goal
+
+abbrev pub invariant-loop : goal.invariant-loop
+invariant-loop g l = shape l.queues ≡ shape l.initial.queues

@@ -1,0 +1,3 @@
+mod generator;
+mod orders;
+mod queues;
