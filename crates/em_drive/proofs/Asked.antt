@@ -9,21 +9,21 @@ use Rattle.em_log.specs.declared.graph.Config.{Config}
 use Rattle.em_log.specs.declared.ask.Answer.{Answer}
 use Rattle.em_log.specs.declared.ask.Ask.{Ask}
 use Rattle.em_log.specs.declared.ask.Context.{Context}
-use Rattle.em_log.specs.declared.entry.Body.{Body}
 use Rattle.em_log.specs.declared.entry.Entry.{Entry}
 use Rattle.em_log.specs.declared.entry.What.{What}
 use Rattle.em_log.specs.declared.fault.Fault.{Fault}
+use Rattle.em_log.specs.declared.ids.Limits.{Limits}
 use Rattle.em_log.specs.Allowance.{cost_of_ask, cost_of_lead}
 use Rattle.em_log.specs.Answers.{answer_of, block}
 use Rattle.em_log.specs.Bodies.{Pair}
 use Rattle.em_log.specs.Contexts as log
-use Rattle.em_log.specs.Contexts.{context_after, object_begun}
+use Rattle.em_log.specs.Contexts.{context_after}
 use Rattle.em_log.specs.Declarations.{declarations_of}
 use Rattle.em_log.specs.Expressions.{Env}
 use Rattle.em_log.specs.History.{Past, entry_by, entries_by, onto}
-use Rattle.em_log.specs.Lawful.{due, due_after, is_boot_or_receive}
+use Rattle.em_log.specs.Lawful.{AllAllowed, due, due_after}
 use Rattle.em_log.specs.Leads.{lead, own, refusal, refused_or, call_of}
-use Rattle.em_log.specs.Legal.{Lead, lead_here, leads_after, leads, whats, AreLeads, body_of, opening, opening_after, EndFollows, EndedFollow}
+use Rattle.em_log.specs.Legal.{Lead, lead_here, leads_after, leads, whats, AreLeads, opening, opening_after, EndFollows, EndedFollow}
 use Rattle.em_log.specs.Tails.{tail, tail_of}
 use Rattle.em_log.specs.Works.{Exchange, is_end}
 use Rattle.em_core.specs.Pieces.{Piece, AreTail, is_tail}
@@ -31,9 +31,13 @@ use Rattle.em_core.specs.Steps.{GrowsByAsk}
 use Rattle.em_core.proofs.Histories as histories
 use Rattle.em_core.proofs.Leads.{lead-shows}
 use Rattle.em_core.proofs.Parts.{lead-grows}
+use Rattle.em_cores.proofs.Holding.{has_hold, holds-own}
+use Rattle.em_cores.proofs.Objects.{begun-object-stays}
+use Rattle.em_cores.proofs.Onto.{allowed-before}
 use Rattle.em_body.specs.Followed.{pairs_of}
 use Rattle.em_body.proofs.LeadsRead.{lead-read}
-use Rattle.em_drive.specs.Readings.{IsReading}
+use Rattle.em_drive.specs.Readings.{IsReading, keeps_cells}
+use Rattle.em_drive.proofs.Cells.{lead-hold, tail-hold}
 
 -- entries in the midst of a context
 
@@ -89,19 +93,6 @@ keeps-opening k c [] past all = refl
 keeps-opening k c (w ∷ ws) past all =
     keeps-opening k c ws (entry_by c w ∷ past) all.1 ∙ histories.own c _ _
     ∙ entry-opening k (entry_by c w ∷ past) c w (opening k past c) all.0
-
--- the object of a boot or receive context does not depend on the history
-object-same : (k : Declarations) (past now : Past) (o : Option What) → IsTrue (is_boot_or_receive o)
-    → object_begun k now o ≡ object_begun k past o
-object-same k past now (Some (What.Enter Body.Boot)) kind = refl
-object-same k past now (Some (What.Start q e s)) kind = refl
-object-same k past now o kind = absurd cc
-
-body-same : (g : Config) (past now : Past) (c : ℕ) → log.context now c ≡ log.context past c
-    → IsTrue (is_boot_or_receive (log.context past c)) → body_of g now c ≡ body_of g past c
-body-same g past now c same kind =
-    let object = object-same (declarations_of g) past now (log.context past c) kind in
-    rw (same, object) refl
 
 -- no context has ended by them
 entry-ended : (g : Config) (past : Past) (c : ℕ) (w : What) → Keeps w → EndFollows g past c w
@@ -190,11 +181,12 @@ lead-cost k past c a mid = refused-cost k past c a (refusal k past c a) mid
 
 -- the reading goes on
 
-pub asked-reading : (g : Config) (past : Past) (c : ℕ) (told : Context) (es : List Exchange) (ws : List What) (a : Ask)
+pub asked-reading : (g : Config) (l : Limits) (past : Past) (c : ℕ) (told : Context) (es : List Exchange) (ws : List What) (a : Ask)
     → IsReading g past c told es ws → due (declarations_of g) past ≡ [] → is_end a ≡ false
     → let w = lead (declarations_of g) past c a in
-    IsReading g (block (declarations_of g) past (entry_by c w)) c told (record { ask = a; answer = answer_of w } ∷ es) (w ∷ ws)
-asked-reading g past c told es ws a r whole mid =
+    AllAllowed (declarations_of g) l (block (declarations_of g) past (entry_by c w))
+    → IsReading g (block (declarations_of g) past (entry_by c w)) c told (record { ask = a; answer = answer_of w } ∷ es) (w ∷ ws)
+asked-reading g l past c told es ws a r whole mid allowed =
     let k = declarations_of g in
     let w = lead k past c a in
     let e = entry_by c w in
@@ -202,29 +194,33 @@ asked-reading g past c told es ws a r whole mid =
     let after = tail_of k past (e ∷ past) c w in
     let x : Exchange = record { ask = a; answer = answer_of w } in
     let p : Pair = record { ask = a; what = w } in
-    let l : Lead = record { before = past; what = w } in
+    let led : Lead = record { before = past; what = w } in
     let all : AllKeep (w ∷ after) = (lead-keeps k past c a mid, tail-keeps after (follows-tail k past c a)) in
     let same : log.context now c ≡ log.context past c = keeps-context c (w ∷ after) past all in
-    let begins : IsTrue (is_boot_or_receive (log.context past c)) = subst (λ o. IsTrue (is_boot_or_receive o)) (sym r.begun) r.kind in
-    let added : leads k now c ≡ leads k past c ++ l ∷ [] = asked-leads k past c _ a mid whole r.begun in
+    let follow : AreTail after = follows-tail k past c a in
+    let holding : has_hold k now c ≡ keeps_cells a (answer_of w) (has_hold k past c) =
+    tail-hold k c after (e ∷ past) follow ∙ lead-hold k past c a mid (lead-keeps k past c a mid (log.context past c)) in
+    let before : AllAllowed k l past = allowed-before k l (e ∷ tail k past e) past allowed in
+    let added : leads k now c ≡ leads k past c ++ led ∷ [] = asked-leads k past c _ a mid whole r.begun in
     let lead_costs : sum_by (λ m. cost_of_lead m.what) (leads k now c)
-    ≡ sum_by (λ m. cost_of_lead m.what) (leads k past c) + sum_by (λ m. cost_of_lead m.what) (l ∷ []) =
-    ap (sum_by (λ m. cost_of_lead m.what)) added ∙ sum_by-append (λ m. cost_of_lead m.what) (leads k past c) (l ∷ []) in
+    ≡ sum_by (λ m. cost_of_lead m.what) (leads k past c) + sum_by (λ m. cost_of_lead m.what) (led ∷ []) =
+    ap (sum_by (λ m. cost_of_lead m.what)) added ∙ sum_by-append (λ m. cost_of_lead m.what) (leads k past c) (led ∷ []) in
     let ask_costs : sum_by (λ y. cost_of_ask y.ask) (x ∷ es) ≡ cost_of_ask a + sum_by (λ y. cost_of_ask y.ask) es =
     sum_by-cons (λ y. cost_of_ask y.ask) x es in
     record {
       begun = same ∙ r.begun;
-      kind = r.kind;
-      body = body-same g past now c same begins ∙ r.body;
+      object = ap (log.object_begun k now) same ∙ begun-object-stays k l (e ∷ tail k past e) past allowed c ∙ r.object;
       first = keeps-opening k c (w ∷ after) past all ∙ r.first;
+      hold =
+          holds-own k l now c allowed ∙ holding ∙ ap (keeps_cells a (answer_of w)) (sym (holds-own k l past c before) ∙ r.hold);
       entries =
-          ap whats added ∙ map-append (λ m. m.what) (leads k past c) (l ∷ []) ∙ ap (λ vs. vs ++ w ∷ []) r.entries
+          ap whats added ∙ map-append (λ m. m.what) (leads k past c) (led ∷ []) ∙ ap (λ vs. vs ++ w ∷ []) r.entries
           ∙ sym (reverse-append (w ∷ []) ws);
       read = (lead-read k past c a mid, r.read);
       each =
           subst (λ ls. AreLeads k c (reverse (pairs_of (x ∷ es) (w ∷ ws))) ls) (sym added)
-          (subst (λ ps. AreLeads k c ps (leads k past c ++ l ∷ [])) (sym (reverse-append (p ∷ []) (pairs_of es ws)))
-          (are_leads-add k c p l (reverse (pairs_of es ws)) (leads k past c) r.each refl));
+          (subst (λ ps. AreLeads k c ps (leads k past c ++ led ∷ [])) (sym (reverse-append (p ∷ []) (pairs_of es ws)))
+          (are_leads-add k c p led (reverse (pairs_of es ws)) (leads k past c) r.each refl));
       cost = omega (arith, lead_costs, ask_costs, r.cost, lead-cost k past c a mid);
     }
 

@@ -1,17 +1,25 @@
 -- Where no context is open there is nothing to follow, and a run that has ended every context is legal.
-use Rattle.std.proofs.Common.{◌≡◌, ℕ, zero, suc, ◌<◌, ◌==◌, Bool, true, false, List, [], ◌∷◌, Option, Some, None, refl, sym, ◌∙◌, ap, subst, arith, slice_get, if◌then◌else◌}
+use Rattle.std.proofs.Common.{◌≡◌, ℕ, ◌<◌, ◌==◌, ◌&&◌, Bool, true, false, List, [], ◌∷◌, Option, Some, None, refl, sym, ◌∙◌, ap, subst, slice_get, if◌then◌else◌}
+use Rattle.std.specs.List.{list_all}
 use Rattle.std.specs.Option.{option_and_then}
 use Rattle.em_log.specs.declared.body.Stmt.{Stmt}
 use Rattle.em_log.specs.declared.declarations.Declarations.{Declarations}
 use Rattle.em_log.specs.declared.entry.What.{What}
 use Rattle.em_log.specs.declared.graph.Config.{Config}
 use Rattle.em_log.specs.declared.ids.Limits.{Limits}
+use Rattle.em_log.specs.declared.ids.EndKind.{EndKind}
+use Rattle.em_log.specs.Answers.{end_of}
 use Rattle.em_log.specs.Bodies.{Reading, follow_all, serves}
-use Rattle.em_log.specs.Contexts.{context, context_after, object_begun}
-use Rattle.em_log.specs.Declarations.{declarations_of}
+use Rattle.em_log.specs.Contexts.{boot_ended, context, context_after, object_begun}
+use Rattle.em_log.specs.Declarations.{below, declarations_of}
+use Rattle.em_log.specs.Eligible.{is_between, is_idle}
 use Rattle.em_log.specs.History.{Past}
 use Rattle.em_log.specs.Lawful.{Lawful}
 use Rattle.em_log.specs.Legal.{Lead, Legal, leads, leads_after, whats, reading, body_in, body_of, opening, error_body_of, AreLeads, FollowsSoFar, EndedFollow}
+use Rattle.em_log.specs.Operations.{all_done}
+use Rattle.em_moments.proofs.Asked.{and-true}
+use Rattle.em_moments.proofs.Choices.{between-parts}
+use Rattle.em_laws.proofs.Acks.{all-below}
 
 -- leads
 
@@ -60,16 +68,23 @@ closed-follows g past c none =
 
 -- whole runs
 
--- a run of one core that is between contexts is legal
-pub whole-run : (g : Config) (l : Limits) (past : Past) → g.cores ≡ 1 → Lawful (declarations_of g) l past → context past 0 ≡ None
-    → EndedFollow g past → Legal g l past
-whole-run g l past one lawful none ended =
+-- in a history that has ended so no context is open
+ended-closed : (k : Declarations) (l : Limits) (past : Past) (end : EndKind) → end_of k l past ≡ Some end → (c : ℕ) → c < k.cores → context past c ≡ None
+ended-closed k l past end ended c lt = by_idle (is_idle k past) refl
+  where
+    by_idle : (b : Bool) → is_idle k past ≡ b → context past c ≡ None
+    by_idle true idle =
+        let parts = and-true (boot_ended past && list_all (is_between k past) (below k.cores)) (all_done past) idle in
+        let between = and-true (boot_ended past) (list_all (is_between k past) (below k.cores)) parts.0 in
+        (between-parts k past c (all-below (is_between k past) c k.cores between.1 lt)).closed
+    by_idle false busy = absurd (cc (rw busy at ended))
+
+-- a run that has ended so is legal
+pub whole-run : (g : Config) (l : Limits) (past : Past) (end : EndKind) → Lawful (declarations_of g) l past → EndedFollow g past
+    → end_of (declarations_of g) l past ≡ Some end → Legal g l past
+whole-run g l past end lawful follow ended =
     record {
       lawful = lawful;
-      ended = ended;
-      begun = λ c lt. by_core c (subst (λ n. c < n) one lt);
+      ended = follow;
+      begun = λ c lt. closed-follows g past c (ended-closed (declarations_of g) l past end ended c lt);
     }
-  where
-    by_core : (c : ℕ) → c < 1 → FollowsSoFar g past c
-    by_core zero lt = closed-follows g past 0 none
-    by_core (suc c) lt = absurd (omega arith)

@@ -19,9 +19,10 @@ use Rattle.em_log.specs.Declarations.{declarations_of}
 use Rattle.em_log.specs.Handles.{held}
 use Rattle.em_log.specs.History.{Past, entry_by}
 use Rattle.em_log.specs.Leads.{lead}
-use Rattle.em_log.specs.Legal.{leads, AreLeads, error_body_of, reading, cells_in, FollowsSoFar, FollowsToEnd, EndedFollow}
+use Rattle.em_log.specs.Legal.{leads, AreLeads, body_in, body_of, declared_object, error_body_of, reading, cells_in, FollowsSoFar, FollowsToEnd, EndedFollow}
 use Rattle.em_log.specs.Tails.{tail_of}
 use Rattle.em_log.specs.Works.{Exchange}
+use Rattle.em_core.specs.Pieces.{begun_by}
 use Rattle.em_core.specs.Stands.{IsAt, IsOver}
 use Rattle.em_core.proofs.Histories as histories
 use Rattle.em_body.specs.contracts.run.BodyRunWork.TheImpl.{ghosts}
@@ -62,12 +63,28 @@ no_error-body g past c none all =
 
 -- followed
 
+pub same-entry : (opened : Context) → begun_by opened ≡ work.entry_of opened
+same-entry Context.Boot = refl
+same-entry (Context.Receive r) = refl
+same-entry (Context.GlobalStart op x) = refl
+same-entry (Context.LocalStart op x) = refl
+same-entry (Context.LocalStop op x) = refl
+same-entry (Context.GlobalStop op x) = refl
+
+-- the body of the context is that of the object that it was told
+reading-body : (g : Config) (past : Past) (c : ℕ) (told : Context) (es : List Exchange) (ws : List What)
+    → IsReading g past c told es ws → body_of g past c ≡ work.body_of g told
+reading-body g past c told es ws r =
+    let begun : log.context past c ≡ Some (work.entry_of told) = r.begun ∙ ap Some (same-entry told) in
+    ap (λ (o : Option What). body_in g (declared_object g past c) o) begun
+    ∙ ap (λ (o : Option ℕ). body_in g (option_and_then (slice_get g.eos) o) (Some (work.entry_of told))) r.object
+
 -- the history's reading of the body is that of the body's own laws
 reading-same : (g : Config) (past : Past) (c : ℕ) (told : Context) (es : List Exchange) (ws : List What)
     → IsReading g past c told es ws → error_body_of g past c ≡ None
     → reading g past c ≡ body.reading (record { graph = g; core = c }) told ws
 reading-same g past c told es ws r none =
-    let b = r.body in
+    let b = reading-body g past c told es ws r in
     let f = r.first in
     let e = r.entries in
     rw (none, b, f, e) refl

@@ -14,3 +14,6 @@ pub mod Taking
 pub mod Asking
 pub mod Answered
 pub mod GoneOn
+pub mod Cells
+pub mod OtherCores
+pub mod Rounds

@@ -1,5 +1,5 @@
 -- What a context of a runnable graph runs, and what it asks.
-use Rattle.std.proofs.Common.{◌≡◌, ℕ, zero, suc, Bool, true, false, ◌&&◌, ◌||◌, List, [], ◌∷◌, Option, Some, None, refl, subst, IsTrue}
+use Rattle.std.proofs.Common.{◌≡◌, ℕ, zero, suc, Bool, true, false, ◌&&◌, ◌||◌, List, [], ◌∷◌, Option, Some, None, refl, sym, subst, IsTrue}
 use Rattle.std.proofs.lemmas.Bool.{and_parts}
 use Rattle.std.specs.List.{list_all}
 use Rattle.std.specs.Option.{option_map_or, option_or}
@@ -14,9 +14,11 @@ use Rattle.em_log.specs.Legal.{body_for}
 use Rattle.em_log.specs.WellFormed.{IsWellFormed, Receive, Start, OtherOfObject, is_body, is_error_body, is_unwritten, are_given, are_bodies}
 use Rattle.em_body.specs.Everywhere.{everywhere_in}
 use Rattle.em_body.specs.Standings.{body_of, entry_of, does_ask}
+use Rattle.em_body.proofs.AsksOfStatements.{asks-are}
 use Rattle.em_desk.specs.State.{IsServed}
 use Rattle.em_drive.specs.Runnable.{is_runnable, is_runnable_object, is_runnable_statement}
-use Rattle.em_drive.proofs.Simple.{runnable-parts, object-parts}
+use Rattle.em_drive.specs.Servable.{IsServable}
+use Rattle.em_drive.proofs.Simple.{runnable-parts, runnable-simple, runnable-no_error, runnable-objects, object-parts}
 
 -- ---- bodies that were not given
 
@@ -104,3 +106,16 @@ runnable-served (Stmt.Send e q) v h asks = tt
 runnable-served (Stmt.Claim i) v h asks = tt
 runnable-served (Stmt.Set i e) v h asks = absurd cc
 runnable-served s v h asks = absurd cc
+
+-- ---- the whole
+
+pub runnable-servable : (g : Config) → IsWellFormed g → IsTrue (is_runnable g) → IsServable g
+runnable-servable g well h =
+    record {
+      simple = runnable-simple g well h;
+      asks = λ c context es now a reached asks.
+          let of = asks-are is_runnable_statement (record { graph = g; core = c }) context es now reached (runnable-bodies g well h context) a asks in
+          subst IsServed (sym of.is) (runnable-served of.statement now.env of.passes of.asks);
+      error = runnable-no_error g h;
+      errors = runnable-objects g h;
+    }

@@ -1,7 +1,6 @@
--- What a take of the one core comes to: a context, or the end.
-use Rattle.std.proofs.Common.{◌≡◌, ◌+◌, ◌<◌, Bool, true, false, not, ◌&&◌, List, [], ◌∷◌, length, Option, Some, None, refl, sym, ap, subst, ◌∙◌, arith}
+-- What a take of a core comes to: a context, an acknowledgement, nothing for now, or the end.
+use Rattle.std.proofs.Common.{◌≡◌, ◌+◌, ◌<◌, ℕ, Bool, true, false, not, ◌&&◌, List, [], ◌∷◌, length, Some, None, refl, sym, subst, arith}
 use Rattle.std.specs.Prelude.{IsTrue}
-use Rattle.std.specs.Option.{option_map, option_and_then}
 use Rattle.em_log.specs.declared.ask.Answer.{Answer}
 use Rattle.em_log.specs.declared.ask.Context.{Context}
 use Rattle.em_log.specs.declared.declarations.Declarations.{Declarations}
@@ -9,25 +8,19 @@ use Rattle.em_log.specs.declared.entry.Body.{Body}
 use Rattle.em_log.specs.declared.entry.Entry.{Entry}
 use Rattle.em_log.specs.declared.entry.What.{What}
 use Rattle.em_log.specs.declared.graph.Config.{Config}
-use Rattle.em_log.specs.declared.ids.Cells.{Cells}
 use Rattle.em_log.specs.declared.ids.EndKind.{EndKind}
 use Rattle.em_log.specs.declared.ids.Limits.{Limits}
-use Rattle.em_log.specs.Answers.{Takes, Halted, Boots, Early, Enters, Acks, Receives, Rests, RestAnswer, block, context_told, context_from, end_of, is_first, cells_as}
-use Rattle.em_log.specs.Atomic.{holds, cells}
+use Rattle.em_log.specs.declared.ids.OpId.{OpId}
+use Rattle.em_log.specs.Answers.{Takes, Halted, Boots, Early, Enters, Acks, Receives, Rests, RestAnswer, block, end_of}
 use Rattle.em_log.specs.Contexts.{context}
 use Rattle.em_log.specs.Declarations.{declarations_of}
 use Rattle.em_log.specs.Eligible.{is_idle, is_wanted, is_quiet, is_at_limit, take_size, ticket_drawn}
 use Rattle.em_log.specs.History.{Past, entry_by, onto}
-use Rattle.em_log.specs.Legal.{EndedFollow}
-use Rattle.em_log.specs.Operations.{step}
-use Rattle.em_log.specs.Tails.{tail}
+use Rattle.em_log.specs.Tails.{tail, tail_of}
 use Rattle.em_moments.proofs.Asked.{and-true}
-use Rattle.em_core.specs.Pieces.{Piece, HasNoRest, history}
-use Rattle.em_desk.specs.Simple.{IsSimple}
-use Rattle.em_desk.specs.State.{IsWaited, Unbegun, Busy}
-use Rattle.em_drive.specs.Going.{HasNoCells}
-use Rattle.em_drive.specs.Readings.{IsReading}
-use Rattle.em_drive.proofs.Opening.{booted, boot-opened, simple-receive-opened}
+use Rattle.em_desk.specs.State.{IsWaited}
+use Rattle.em_drive.specs.Going.{IsGrownBy, IsIdle}
+use Rattle.em_drive.proofs.Opening.{IsOpened, boot-opened, receive-opened, step-opened}
 
 -- a block adds something
 
@@ -38,42 +31,17 @@ length-onto (e ∷ es) past = let rest = length-onto es (e ∷ past) in omega (a
 pub block-grows : (k : Declarations) (past : Past) (e : Entry) → length past < length (block k past e)
 block-grows k past e = let all = length-onto (tail k past e) (e ∷ past) in omega (arith, all)
 
--- a context has been opened, or the history has ended so
-pub data Took (g : Config) (l : Limits) (past : Past) (x : Answer) (now : Past) : Type 0 where
-  Opens : (opened : Context) → x ≡ Answer.Context opened → HasNoRest opened → HasNoCells opened → IsReading g now 0 opened [] []
-      → ((m : List Piece) → history 0 m ≡ past → history 0 (Piece.Opened opened ∷ m) ≡ now)
-      → (EndedFollow g past → EndedFollow g now) → length past < length now → Took g l past x now
-  EndsQuiet : x ≡ Answer.Quiet → now ≡ past → end_of (declarations_of g) l past ≡ Some EndKind.Quiet → Took g l past x now
-  EndsAtLimit : x ≡ Answer.Limit → now ≡ past → end_of (declarations_of g) l past ≡ Some EndKind.Limit → Took g l past x now
+-- and all of it is of the core of its first entry
+pub block-grown : (k : Declarations) (past : Past) (c : ℕ) (w : What) → IsGrownBy c past (block k past (entry_by c w))
+block-grown k past c w = (w ∷ tail_of k past (entry_by c w ∷ past) c w, refl)
 
--- cells
-
-none-in : {A B : Type 0} (f : A → B) (o : Option A) → o ≡ None → option_map f o ≡ None
-none-in f o is = rw is refl
-
-abbrev cells_told : Option Context → Option Cells
-cells_told (Some (Context.Receive r)) = r.cells
-cells_told o = None
-
-from-cells : (k : Declarations) (now : Past) (w : What) → holds k now 0 ≡ None → cells_told (context_from k now 0 w) ≡ None
-from-cells k now (What.Start q e s) hold = none-in (λ a. cells_as (cells k now a)) (holds k now 0) hold
-from-cells k now (What.Enter Body.Boot) hold = refl
-from-cells k now (What.Enter (Body.GlobalStart op)) hold = refl
-from-cells k now (What.Enter (Body.LocalStart op)) hold = refl
-from-cells k now (What.Enter (Body.LocalStop op)) hold = refl
-from-cells k now (What.Enter (Body.GlobalStop op)) hold = refl
-from-cells k now w hold = refl
-
-without : (opened : Context) → cells_told (Some opened) ≡ None → HasNoCells opened
-without (Context.Receive r) none = none
-without opened none = tt
-
-told-without : (k : Declarations) (now : Past) (opened : Context) → holds k now 0 ≡ None → context_told k now 0 ≡ Some opened → HasNoCells opened
-told-without k now opened hold is = by_context (context now 0) is
-  where
-    by_context : (o : Option What) → option_and_then (context_from k now 0) o ≡ Some opened → HasNoCells opened
-    by_context None told = absurd cc
-    by_context (Some w) told = without opened (sym (ap cells_told told) ∙ from-cells k now w hold)
+-- a context has been opened, a change acknowledged, the core is idle, or the history has ended so
+pub data Took (g : Config) (l : Limits) (past : Past) (c : ℕ) (x : Answer) (now : Past) : Type 0 where
+  Opens : (opened : Context) → x ≡ Answer.Context opened → IsOpened g past now c opened → length past < length now → Took g l past c x now
+  Acknowledges : (op : OpId) → x ≡ Answer.Acked op → now ≡ block (declarations_of g) past (entry_by c (What.Ack op)) → Took g l past c x now
+  Idles : x ≡ Answer.Idle → now ≡ past → IsIdle g l past c → Took g l past c x now
+  EndsQuiet : x ≡ Answer.Quiet → now ≡ past → end_of (declarations_of g) l past ≡ Some EndKind.Quiet → Took g l past c x now
+  EndsAtLimit : x ≡ Answer.Limit → now ≡ past → end_of (declarations_of g) l past ≡ Some EndKind.Limit → Took g l past c x now
 
 -- the end
 
@@ -91,46 +59,53 @@ limit-ends k l past limit =
     let loud : is_quiet k past ≡ false = not-both (is_wanted k past) (is_idle k past) wanted in
     rw (loud, limit) refl
 
--- the one core waits for none
+idles : (g : Config) (l : Limits) (past now : Past) (c : ℕ) (x : Answer) → let k = declarations_of g in
+    context past c ≡ None → Takes k l false past c x now → (x ≡ Answer.Idle → IsWaited k past c) → x ≡ Answer.Idle → now ≡ past → Took g l past c x now
+idles g l past now c x closed takes waited is same =
+    Idles is same
+    (record {
+      closed = closed;
+      takes = subst (λ (h : Past). Takes (declarations_of g) l false past c Answer.Idle h) same
+          (subst (λ (y : Answer). Takes (declarations_of g) l false past c y now) is takes);
+      waited = waited is;
+    })
 
-waits-not : (k : Declarations) (past : Past) → k.cores ≡ 1 → context past 0 ≡ None → IsWaited k past 0 → ⊥
-waits-not k past one closed (Unbegun empty other) = other refl
-waits-not k past one closed (Busy d b below open') =
-    let zero : d ≡ 0 = omega (arith, one, below) in
-    let some : context past 0 ≡ Some b = subst (λ n. context past n ≡ Some b) zero open' in
-    cc (some, closed)
+rests : (g : Config) (l : Limits) (past now : Past) (c : ℕ) (x : Answer) → (x ≡ Answer.Idle → Took g l past c x now) → now ≡ past
+    → RestAnswer (declarations_of g) l past x → Took g l past c x now
+rests g l past now c Answer.Quiet idle same rest = EndsQuiet refl same (quiet-ends (declarations_of g) l past rest)
+rests g l past now c Answer.Limit idle same rest = EndsAtLimit refl same (limit-ends (declarations_of g) l past rest)
+rests g l past now c Answer.Idle idle same rest = idle refl
+rests g l past now c x idle same rest = absurd rest
 
-first-empty : (past : Past) → is_first 0 past ≡ true → past ≡ []
-first-empty [] is = refl
-first-empty (e ∷ past) is = absurd cc
-
-rests : (g : Config) (l : Limits) (past now : Past) (x : Answer) → (x ≡ Answer.Idle → ⊥) → now ≡ past → RestAnswer (declarations_of g) l past x → Took g l past x now
-rests g l past now Answer.Quiet busy same rest = EndsQuiet refl same (quiet-ends (declarations_of g) l past rest)
-rests g l past now Answer.Limit busy same rest = EndsAtLimit refl same (limit-ends (declarations_of g) l past rest)
-rests g l past now Answer.Idle busy same rest = absurd (busy refl)
-rests g l past now x busy same rest = absurd rest
-
-boots : (g : Config) (l : Limits) (past now : Past) (x : Answer) → past ≡ [] → x ≡ Answer.Context Context.Boot
-    → now ≡ entry_by 0 (What.Enter Body.Boot) ∷ past → Took g l past x now
-boots g l past now x empty is new =
-    let whole : now ≡ booted = new ∙ ap (λ (h : Past). entry_by 0 (What.Enter Body.Boot) ∷ h) empty in
-    Opens Context.Boot is tt tt (subst (λ h. IsReading g h 0 Context.Boot [] []) (sym whole) (boot-opened g))
-    (λ m all. ap (λ (h : Past). entry_by 0 (What.Enter Body.Boot) ∷ h) all ∙ sym new)
-    (λ ended. subst (EndedFollow g) (sym whole) (tt, tt))
-    (rw new (omega arith))
-
--- a take of the core of a graph with no other, where nothing steps or is held
-pub took : (g : Config) (l : Limits) (past now : Past) (x : Answer) → let k = declarations_of g in
-    IsSimple k → k.cores ≡ 1 → context past 0 ≡ None → step k past 0 ≡ None → holds k now 0 ≡ None
-    → (x ≡ Answer.Idle → IsWaited k past 0) → Takes k l false past 0 x now → Took g l past x now
-took g l past now x simple one closed still hold idle (Halted halts is same) = absurd cc
-took g l past now x simple one closed still hold idle (Boots going first is new) = boots g l past now x (first-empty past first) is new
-took g l past now x simple one closed still hold idle (Early going second early is same) = absurd (waits-not (declarations_of g) past one closed (idle is))
-took g l past now x simple one closed still hold idle (Enters b opened going booted' owed new told is) = absurd (cc (still, owed))
-took g l past now x simple one closed still hold idle (Acks op going booted' owed new is) = absurd (cc (still, owed))
-took g l past now x simple one closed still hold idle (Receives q opened going booted' none choice new told is) =
+-- a take with a burst of 1 between contexts
+pub took : (g : Config) (l : Limits) (past now : Past) (c : ℕ) (x : Answer) → let k = declarations_of g in
+    l.burst ≡ 1 → context past c ≡ None → (x ≡ Answer.Idle → IsWaited k past c) → Takes k l false past c x now
+    → Took g l past c x now
+took g l past now c x burst closed waited (Halted halts is same) = absurd cc
+took g l past now c x burst closed waited (Boots going first is new) =
+    Opens Context.Boot is (subst (λ (h : Past). IsOpened g past h c Context.Boot) (sym new) (boot-opened g past c)) (rw new (omega arith))
+took g l past now c x burst closed waited (Early going second early is same) =
+    idles g l past now c x closed (Early going second early is same) waited is same
+took g l past now c x burst closed waited (Enters b opened going booted owed new told is) =
+    Opens opened is (step-opened g past now c b opened owed new told) (rw new (block-grows (declarations_of g) past (entry_by c (What.Enter b))))
+took g l past now c x burst closed waited (Acks op going booted owed new is) = Acknowledges (record { 0 = op }) is new
+took g l past now c x burst closed waited (Receives q opened going booted none choice new told is) =
     let k = declarations_of g in
-    let r = simple-receive-opened g l past now 0 q opened simple choice new told in
-    Opens opened is r.no_rest (told-without k now opened hold told) r.reading r.all r.kept (rw new (block-grows k past (entry_by 0 (What.Take (record { 0 = q }) (take_size k l past 0 q) (ticket_drawn k past q)))))
-took g l past now x simple one closed still hold idle (Rests going booted' none no_choice rest same) =
-    rests g l past now x (λ i. waits-not (declarations_of g) past one closed (idle i)) same rest
+    Opens opened is (receive-opened g l past now c q opened burst choice new told)
+    (rw new (block-grows k past (entry_by c (What.Take (record { 0 = q }) (take_size k l past c q) (ticket_drawn k past q)))))
+took g l past now c x burst closed waited (Rests going booted none no_choice rest same) =
+    rests g l past now c x (λ i. idles g l past now c x closed (Rests going booted none no_choice rest same) waited i same) same rest
+
+-- the entries of a take are of its core
+pub takes-grown : (k : Declarations) (l : Limits) (halted : Bool) (past now : Past) (c : ℕ) (x : Answer) → Takes k l halted past c x now
+    → IsGrownBy c past now
+takes-grown k l halted past now c x (Halted halts is same) = ([], same)
+takes-grown k l halted past now c x (Boots going first is new) = (What.Enter Body.Boot ∷ [], new)
+takes-grown k l halted past now c x (Early going second early is same) = ([], same)
+takes-grown k l halted past now c x (Enters b opened going booted owed new told is) =
+    subst (IsGrownBy c past) (sym new) (block-grown k past c (What.Enter b))
+takes-grown k l halted past now c x (Acks op going booted owed new is) =
+    subst (IsGrownBy c past) (sym new) (block-grown k past c (What.Ack (record { 0 = op })))
+takes-grown k l halted past now c x (Receives q opened going booted none choice new told is) =
+    subst (IsGrownBy c past) (sym new) (block-grown k past c (What.Take (record { 0 = q }) (take_size k l past c q) (ticket_drawn k past q)))
+takes-grown k l halted past now c x (Rests going booted none no_choice rest same) = ([], same)

@@ -59,38 +59,38 @@ awaited-step (Step.Ask a) for = refl
 awaited-step s for = absurd for
 
 -- the run has gone on, and the desk has not
-pub gone-on : (g : Config) (l : Limits) (desk : DeskState) (was now : CoreRun Run)
-    → ((c : ℕ) (f : Made) (m : List Piece) → Stands ghosts was c f m → Stands ghosts now c f m) → IsGoing g l desk was → IsGoing g l desk now
-gone-on g l desk was now stands going =
+pub gone-on : (g : Config) (l : Limits) (desk : DeskState) (c : ℕ) (was now : CoreRun Run)
+    → ((c : ℕ) (f : Made) (m : List Piece) → Stands ghosts was c f m → Stands ghosts now c f m) → IsGoing g l desk c was → IsGoing g l desk c now
+gone-on g l desk c was now stands going =
     record {
       well_formed = going.well_formed;
-      runnable = going.runnable;
+      servable = going.servable;
       burst = going.burst;
       graph = going.graph;
       limits = going.limits;
       running = going.running;
+      core = going.core;
       pieces = going.pieces;
-      stands = stands 0 (record { graph = g; core = 0 }) going.pieces going.stands;
-      all = going.all;
+      stands = stands c (record { graph = g; core = c }) going.pieces going.stands;
+      own = going.own;
       current = going.current;
-      cells = going.cells;
       ended = going.ended;
     }
 
-pub awaiting-next : (g : Config) (l : Limits) (desk : DeskState) (was now : CoreRun Run) (s : Step) → unreplied ghosts now ≡ awaited s → IsForDesk s
+pub awaiting-next : (g : Config) (l : Limits) (desk : DeskState) (c : ℕ) (was now : CoreRun Run) (s : Step) → unreplied ghosts now ≡ awaited s → IsForDesk s
     → ((c : ℕ) (f : Made) (m : List Piece) → Stands ghosts was c f m → Stands ghosts now c f m)
-    → IsAwaiting None g l desk was → IsAwaiting (Some s) g l desk now
-awaiting-next g l desk was now s is for stands waits =
+    → IsAwaiting None g l desk c was → IsAwaiting (Some s) g l desk c now
+awaiting-next g l desk c was now s is for stands waits =
     let waited = is ∙ awaited-step s for in
     record {
-      going = gone-on g l desk was now stands waits.going;
+      going = gone-on g l desk c was now stands waits.going;
       unreplied = waited;
       over = not-over (ghosts.unanswered (ghosts.state now.work)) now.stage s waited;
     }
 
 -- a silent step leaves nothing to reply to
-pub silent-next : (g : Config) (l : Limits) (desk : DeskState) (was now : CoreRun Run) → unreplied ghosts now ≡ None → now.stage ≡ was.stage
+pub silent-next : (g : Config) (l : Limits) (desk : DeskState) (c : ℕ) (was now : CoreRun Run) → unreplied ghosts now ≡ None → now.stage ≡ was.stage
     → ((c : ℕ) (f : Made) (m : List Piece) → Stands ghosts was c f m → Stands ghosts now c f m)
-    → IsAwaiting None g l desk was → IsAwaiting None g l desk now
-silent-next g l desk was now none same stands waits =
-    record { going = gone-on g l desk was now stands waits.going; unreplied = none; over = rw same waits.over }
+    → IsAwaiting None g l desk c was → IsAwaiting None g l desk c now
+silent-next g l desk c was now none same stands waits =
+    record { going = gone-on g l desk c was now stands waits.going; unreplied = none; over = rw same waits.over }

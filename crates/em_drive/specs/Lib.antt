@@ -1,5 +1,6 @@
 pub mod Orders
 pub mod Runnable
+pub mod Servable
 pub mod Runs
 pub mod Readings
 pub mod Going

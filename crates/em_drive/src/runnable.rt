@@ -1,8 +1,10 @@
 //! Which graphs run today.
-ghost use Rattle.std.specs.Prelude.{◌≡◌, ◌==◌, ◌&&◌};
+ghost use Rattle.std.specs.Prelude.{◌≡◌, ◌==◌, ◌&&◌, true};
 ghost use Rattle.std.specs.List.{list_all};
+ghost use Rattle.em_log.specs.WellFormed.{IsWellFormed};
 ghost use Rattle.em_body.specs.Everywhere.{everywhere, everywhere_in};
 ghost use Rattle.em_drive.specs.Runnable as runnable;
+ghost use Rattle.em_drive.specs.Servable.{IsServable};
 
 use em_log::{Block, Config, EoDecl, GroupId, Kind, Priority, QueueDecl, Stmt};
 
@@ -81,8 +83,7 @@ fn has_one_core_alone(config: &Config) -> bool
         && config.egroups.as_slice().is_empty()
 }
 
-/// Whether the graph runs today.
-pub fn is_runnable(config: &Config) -> bool
+fn is_runnable_graph(config: &Config) -> bool
     ensures { result ≡ runnable.is_runnable config.now }
 {
     has_one_core_alone(config)
@@ -90,4 +91,12 @@ pub fn is_runnable(config: &Config) -> bool
         && are_runnable_queues(config.queues.as_slice())
         && is_runnable_body(config.boot.as_slice())
         && config.error.is_none()
+}
+
+/// Whether the graph runs today: a well-formed one that does is servable.
+pub fn is_runnable(config: &Config) -> bool
+    ensures value { result ≡ runnable.is_runnable config.now }
+    ensures servable { IsWellFormed config.now → result ≡ true → IsServable config.now }
+{
+    is_runnable_graph(config)
 }

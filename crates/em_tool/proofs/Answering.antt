@@ -127,6 +127,7 @@ module _ (found : AreFound) where
         script = whole.1;
         history = history;
         legal = subst (λ (l : Limits). IsLegal graph l history) limits runs.legal;
+        laws = runs.laws;
         ended = subst (λ (l : Limits). HasEnded graph l history end) limits (subst (λ (x : EndKind). HasEnded graph s.limits history x) ends runs.ended);
         written = written ∙ ap (append_known before) (same ∙ ap (λ (x : EndKind). text history x) ends);
       }

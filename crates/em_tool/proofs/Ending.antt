@@ -11,6 +11,7 @@ use Rattle.em_log.specs.Declarations.{declarations_of}
 use Rattle.em_log.specs.Eligible.{is_quiet, is_at_limit}
 use Rattle.em_log.specs.History.{Past}
 use Rattle.em_log.specs.Legal.{Legal}
+use Rattle.em_laws.specs.AllLaws.{KeepsLaws}
 use Rattle.em_desk.specs.State.{DeskState}
 use Rattle.em_drive.specs.Runnable.{is_runnable}
 use Rattle.em_drive.specs.Runs.{IsRun}
@@ -36,5 +37,6 @@ runs-of g l desk end runs run =
     record {
       runnable = runs;
       legal = subst (λ (p : Past). Legal g l p) back run.legal;
+      laws = subst (KeepsLaws (declarations_of g)) back run.laws;
       ended = ended-of g l (reverse desk.past) end (subst (λ (p : Past). end_of (declarations_of g) l p ≡ Some end) back run.ended);
     }

@@ -1,12 +1,14 @@
 -- The main theorem's statement.
-use Rattle.std.specs.Prelude.{ℕ, ◌≡◌, ◌≤◌, ◌⊎◌, List, length, Option, IsTrue}
+use Rattle.std.specs.Prelude.{ℕ, ◌≡◌, ◌≤◌, ◌⊎◌, List, length, reverse, Option, IsTrue}
 use Rattle.std.specs.Io.KnownBytes.{append_known}
 use Rattle.em_log.specs.declared.graph.Config.{Config}
 use Rattle.em_log.specs.declared.entry.Entry.{Entry}
 use Rattle.em_log.specs.declared.ids.EndKind.{EndKind}
+use Rattle.em_log.specs.Declarations.{declarations_of}
 use Rattle.em_log.specs.Legal.{IsLegal}
 use Rattle.em_log.specs.WellFormed.{IsWellFormed}
 use Rattle.em_io.specs.Faults.{HasRisen}
+use Rattle.em_laws.specs.AllLaws.{KeepsLaws}
 use Rattle.em_drive.specs.Runnable.{is_runnable}
 use Rattle.em_script.specs.Scripts.{IsScript}
 use Rattle.em_script.specs.Spelling.{spelling}
@@ -16,13 +18,14 @@ use Rattle.em_tool.specs.Outcome.{HasEnded, most_bytes}
 use Rattle.em_tool.specs.Words.{IsCheck, IsSolo}
 
 -- What a run that has ended so has written, where its source told these bytes: the text of one legal history of the
--- script that the bytes are, under the limits of the words, and nothing else.
+-- script that the bytes are, under the limits of the words, and nothing else. The history keeps the laws of all histories.
 pub record Headline (solo : Solo) (bytes : List ℕ) (end : EndKind) (before after : Option (List ℕ)) : Type 0 where
   pub graph : Config
   pub well_formed : IsWellFormed graph
   pub script : IsScript bytes graph
   pub history : List Entry
   pub legal : IsLegal graph solo.limits history
+  pub laws : KeepsLaws (declarations_of graph) (reverse history)
   pub ended : HasEnded graph solo.limits history end
   pub written : after ≡ append_known before (text history end)
 

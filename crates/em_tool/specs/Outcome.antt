@@ -12,6 +12,7 @@ use Rattle.em_log.specs.Legal.{IsLegal}
 use Rattle.em_io.specs.Faults.{HasRisen, HasRisenBeyond}
 use Rattle.em_io.specs.Sink.{AppendsPrefix}
 use Rattle.em_io.specs.Source.{Takes}
+use Rattle.em_laws.specs.AllLaws.{KeepsLaws}
 use Rattle.em_drive.specs.Runnable.{is_runnable}
 use Rattle.em_script.specs.Reading.{Found, script_of}
 use Rattle.em_script.specs.Spelling.{spelling}
@@ -63,10 +64,11 @@ abbrev pub HasEnded : Config → Limits → List Entry → EndKind → Type 0
 HasEnded g l history EndKind.Quiet = IsTrue (is_quiet (declarations_of g) (reverse history))
 HasEnded g l history EndKind.Limit = IsTrue (is_at_limit (declarations_of g) l (reverse history))
 
--- the history is a legal one of the graph under the limits, and has ended so
+-- the history is a legal one of the graph under the limits, keeps the laws of all histories, and has ended so
 pub record Runs (g : Config) (l : Limits) (history : List Entry) (end : EndKind) : Type 0 where
   pub runnable : IsTrue (is_runnable g)
   pub legal : IsLegal g l history
+  pub laws : KeepsLaws (declarations_of g) (reverse history)
   pub ended : HasEnded g l history end
 
 -- what is due

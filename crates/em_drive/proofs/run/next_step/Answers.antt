@@ -13,8 +13,8 @@ loop-step-preserved c =
     record {
       unreplied = none;
       over = rw steps.2 c.loop-step.invariant.over;
-      awaited = λ g l desk waits.
-          silent-next g l desk c.loop-step.run c.next.new.self none steps.2 c.next.ensures.stands (c.loop-step.invariant.awaited g l desk waits);
+      awaited = λ g l desk d waits.
+          silent-next g l desk d c.loop-step.run c.next.new.self none steps.2 c.next.ensures.stands (c.loop-step.invariant.awaited g l desk d waits);
     }
 
 pub returns-in_default : goal.returns-in_default
@@ -22,6 +22,6 @@ returns-in_default c =
     let for = for-desk c.loop-step.run c.next.new.self c.next.result c.next.ensures.steps c.loop-step.invariant.over (λ is. c.in_default.not-Silent is) in
     record {
       for_desk = for;
-      awaited = λ g l desk waits.
-          awaiting-next g l desk c.loop-step.run c.next.new.self c.next.result c.next.ensures.unreplied for c.next.ensures.stands (c.loop-step.invariant.awaited g l desk waits);
+      awaited = λ g l desk d waits.
+          awaiting-next g l desk d c.loop-step.run c.next.new.self c.next.result c.next.ensures.unreplied for c.next.ensures.stands (c.loop-step.invariant.awaited g l desk d waits);
     }

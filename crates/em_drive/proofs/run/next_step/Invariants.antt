@@ -1,4 +1,4 @@
-use Rattle.std.proofs.Common.{◌≡◌, None}
+use Rattle.std.proofs.Common.{◌≡◌, ℕ, None}
 use Rattle.em_log.specs.declared.graph.Config.{Config}
 use Rattle.em_log.specs.declared.ids.Limits.{Limits}
 use Rattle.em_core.specs.Steps.{unreplied, over}
@@ -12,7 +12,7 @@ abbrev pub invariant-loop-step : goal.invariant-loop-step
 invariant-loop-step l = record {
   unreplied : unreplied ghosts l.run ≡ None;
   over : over l.run ≡ None;
-  awaited : (g : Config) (limits : Limits) (desk : DeskState) → IsAwaiting None g limits desk l.fn.run → IsAwaiting None g limits desk l.run;
+  awaited : (g : Config) (limits : Limits) (desk : DeskState) (c : ℕ) → IsAwaiting None g limits desk c l.fn.run → IsAwaiting None g limits desk c l.run;
 }
 
 abbrev pub decreases-loop-step : goal.decreases-loop-step

@@ -1,15 +1,15 @@
-use Rattle.std.proofs.Common.{◌≤◌, ◌+◌, ◌-◌, ◌*◌, length, None}
-use Rattle.em_drive.specs.Going.{IsAwaiting}
+use Rattle.std.proofs.Common.{◌+◌, ◌-◌, ◌*◌, length}
+use Rattle.em_drive.specs.Going.{AreGoing, HasRounded}
 use Rattle.em_drive.proofs.run.solo.Given as goal
 
-abbrev pub invariant-loop : goal.invariant-loop
-invariant-loop g l = IsAwaiting None l.config l.fn.limits l.desk l.run
+abbrev pub invariant-loop-core : goal.invariant-loop-core
+invariant-loop-core g l = AreGoing l.config l.fn.limits l.desk l.runs.items
 
-abbrev pub decreases-loop : goal.decreases-loop
-decreases-loop g l = 260 * (1 + l.fn.limits.receives) + 1 - length l.desk.past
+abbrev pub decreases-loop-core : goal.decreases-loop-core
+decreases-loop-core g l = 260 * (1 + l.fn.limits.receives) + 1 - length l.desk.past
 
-abbrev pub invariant-loop-2 : goal.invariant-loop-2
-invariant-loop-2 g l = record {
-  going : IsAwaiting None l.config l.fn.limits l.desk l.run;
-  grown : length l.initial.desk.past + l.index ≤ length l.desk.past;
+abbrev pub invariant-loop-core-2 : goal.invariant-loop-core-2
+invariant-loop-core-2 g l = record {
+  going : AreGoing l.config l.fn.limits l.desk l.runs.items;
+  rounded : HasRounded l.config l.fn.limits l.initial.desk.past l.desk.past l.order l.core-index;
 }

@@ -1,0 +1,21 @@
+-- The graphs whose bodies the desk serves.
+use Rattle.std.specs.Prelude.{ℕ, ◌≡◌, List, Some, None, IsTrue, is_none}
+use Rattle.std.specs.List.{list_all}
+use Rattle.em_log.specs.declared.ask.Ask.{Ask}
+use Rattle.em_log.specs.declared.ask.Context.{Context}
+use Rattle.em_log.specs.declared.graph.Config.{Config}
+use Rattle.em_log.specs.Works.{Exchange}
+use Rattle.em_log.specs.Declarations.{declarations_of}
+use Rattle.em_body.specs.Followed.{IsReached}
+use Rattle.em_body.specs.Standings.{Standing, unanswered}
+use Rattle.em_desk.specs.Simple.{IsSimple}
+use Rattle.em_desk.specs.State.{IsServed}
+
+-- today's desk is over simple graphs and serves some asks: each ask that a body of the graph comes to is one of these, and
+-- no error body serves a fault
+pub record IsServable (g : Config) : Type 0 where
+  pub simple : IsSimple (declarations_of g)
+  pub asks : (c : ℕ) (context : Context) (es : List Exchange) (now : Standing) (a : Ask)
+      → IsReached (record { graph = g; core = c }) context es now → unanswered now ≡ Some a → IsServed a
+  pub error : g.error ≡ None
+  pub errors : IsTrue (list_all (λ d. is_none d.error) g.eos)
