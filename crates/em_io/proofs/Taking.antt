@@ -3,11 +3,10 @@ use Rattle.std.proofs.Common.{◌≡◌, ◌≤◌, ℕ, List, [], ◌++◌, ◌
 use Rattle.std.specs.Prelude.{Option}
 use Rattle.std.specs.Io.KnownBytes.{prepend_known, IsAtEnd}
 use Rattle.std.proofs.KnownBytes.{prepend_known-nil}
-use Rattle.em_io.specs.Faults.{greatest_count}
 use Rattle.em_io.specs.Source.{Takes}
 
-pub Takes-nil : (left : Option (List ℕ)) (given : ℕ) → given ≤ greatest_count → Takes left left given given []
-Takes-nil left given small = record { left = sym (prepend_known-nil left); given = omega arith }
+pub Takes-nil : (left : Option (List ℕ)) (given : ℕ) → Takes left left given given []
+Takes-nil left given = record { left = sym (prepend_known-nil left); given = omega arith }
 
 prepend_known-twice : (xs ys : List ℕ) (left : Option (List ℕ)) → prepend_known xs (prepend_known ys left) ≡ prepend_known (xs ++ ys) left
 prepend_known-twice xs ys None = refl

@@ -12,7 +12,3 @@ count_after before n = min (before + n) greatest_count
 -- the count rose in a call: it is greater than before, or stands where a counter stops
 abbrev pub HasRisen : ℕ → ℕ → Type 0
 HasRisen before after = (before < after) ⊎ (after ≡ greatest_count)
-
--- the count rose by more than limit in a call, or stands where a counter stops
-abbrev pub HasRisenBeyond : ℕ → ℕ → ℕ → Type 0
-HasRisenBeyond limit before after = (before + limit < after) ⊎ (after ≡ greatest_count)

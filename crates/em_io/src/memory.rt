@@ -78,8 +78,6 @@ impl Source for MemSource {
 
     ghost faults = { source_faults };
 
-    ghost counted = { λ s. s.source.counted };
-
     fn read(&mut self, buf: &mut [u8]) -> Result<usize, Failed>
         ensures within { IfOk result (λ n. n ≤ length buf.new) }
         ensures moved { IfOk result (λ n. Takes (Some (source_left self.old)) (Some (source_left self.new)) (source_given self.old) (source_given self.new) (take n buf.new)) }

@@ -1,7 +1,7 @@
 //! Reading a source to its end.
 ghost use Rattle.std.specs.Prelude.{◌≡◌, ◌<◌, ◌≤◌, ◌+◌, ◌^◌, ◌≢◌, List, ℕ, [], Err, length, IfOk, IfSome, IsErrOf, OnOk, vec_len};
 ghost use Rattle.std.specs.Io.KnownBytes.{IsAtEnd};
-ghost use Rattle.em_io.specs.Faults.{HasRisen, HasRisenBeyond};
+ghost use Rattle.em_io.specs.Faults.{HasRisen};
 ghost use Rattle.em_io.specs.Source.{Takes};
 
 use crate::Source;
@@ -28,7 +28,7 @@ pub fn read_all<S: Source>(alloc: Global, source: &mut S, limit: usize) -> Resul
     ensures within { IfOk result (λ bytes. vec_len bytes ≤ limit) }
 
     // It answers so exactly where more than the limit was taken.
-    ensures too_long { IsErrOf result ReadEnd.TooLong → HasRisenBeyond limit (S.given source.old) (S.given source.new) }
+    ensures too_long { IsErrOf result ReadEnd.TooLong → S.given source.old + limit < S.given source.new }
     ensures not_too_long { ¬ IsErrOf result ReadEnd.TooLong → S.given source.new ≤ S.given source.old + limit }
     ensures too_long_left { IsErrOf result ReadEnd.TooLong → IfSome (S.left source.old) (λ left. limit < length left) }
 

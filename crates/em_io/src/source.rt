@@ -1,6 +1,6 @@
 //! What bytes are read from.
 ghost use Rattle.std.specs.Prelude.{◌≡◌, ◌<◌, ◌≤◌, ◌↔◌, ℕ, List, Option, [], length, take, IfOk, IfSome, OnOk, OnErr};
-ghost use Rattle.em_io.specs.Faults.{HasRisen, greatest_count};
+ghost use Rattle.em_io.specs.Faults.{HasRisen};
 ghost use Rattle.em_io.specs.Source.{Takes};
 
 /// A read or a write that failed.
@@ -11,7 +11,7 @@ pub trait Source {
     /// The bytes that are left, if the source tells them. It tells them always or never.
     ghost left: { Self → Option (List ℕ) };
 
-    /// How many bytes it has given, by a counter.
+    /// How many bytes it has given.
     ghost given: { Self → ℕ };
 
     /// How often it has failed, by a counter.
@@ -30,7 +30,4 @@ pub trait Source {
         ensures failed { OnErr result (HasRisen (faults self.old) (faults self.new)) }
         ensures sound { OnOk result (faults self.new ≡ faults self.old) }
         ensures never_falls { faults self.old ≤ faults self.new };
-
-    /// A counter of 64 bits stops at its greatest number.
-    ghost counted: { (source : Self) → given source ≤ greatest_count };
 }

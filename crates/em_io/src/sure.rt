@@ -1,6 +1,5 @@
 //! A source and a sink in memory that never fail.
 ghost use Rattle.std.specs.Prelude.{◌≡◌, ◌+◌, ◌≤◌, List, [], ◌++◌, Some, vec_len, drop, length};
-ghost use Rattle.em_io.specs.Faults.{greatest_count};
 
 use crate::copying::copy_from;
 use crate::{Failed, Sink, SinkEnd, Source};
@@ -13,7 +12,6 @@ pub struct SureSource {
     bytes: Vec<u8>,
     given: usize,
     ghost within: { given ≤ vec_len bytes },
-    ghost counted: { given ≤ greatest_count },
 }
 
 impl SureSource {
@@ -33,8 +31,6 @@ impl Source for SureSource {
     ghost given = { λ s. s.given };
 
     ghost faults = { λ _. 0 };
-
-    ghost counted = { λ s. s.counted };
 
     fn read(&mut self, buf: &mut [u8]) -> Result<usize, Failed> {
         let count = copy_from(&self.bytes, self.given, buf);

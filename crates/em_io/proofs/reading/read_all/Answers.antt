@@ -5,7 +5,7 @@ use Rattle.em_io.proofs.reading.read_all.Goals as goal
 
 pub loop-count-init : goal.loop-count-init
 loop-count-init g c = record {
-  taken = subst (Takes _ _ _ _) (sym c.new-bytes.ensures.items) (Takes-nil _ _ (g.met.S.Source.counted c.args.source.now));
+  taken = subst (Takes _ _ _ _) (sym c.new-bytes.ensures.items) (Takes-nil _ _);
   within = omega (arith, c.new-bytes.ensures.len);
   sound = refl;
   room = omega arith;

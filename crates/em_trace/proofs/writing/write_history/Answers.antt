@@ -5,7 +5,8 @@ use Rattle.em_io.specs.Sink.{AppendsPrefix}
 use Rattle.em_trace.specs.Fitting.{EntryFits, AreEntries}
 use Rattle.em_trace.specs.Text.{line}
 use Rattle.em_trace.proofs.Fits.{fits_more, fits_all}
-use Rattle.em_trace.proofs.Appending.{text_before, text_before_more, text_first, text_part, text_whole, text_last_part, text_before_none, appends_then}
+use Rattle.em_trace.proofs.Appending.{text_before, text_before_more, text_first, text_part, text_whole, text_last_part, text_before_none}
+use Rattle.em_io.proofs.Writing.{appends_then}
 use Rattle.em_trace.proofs.writing.write_history.Goals as goal
 
 on_ok : {A E : Type 0} (r : Result A E) (P Q : Type 0) → OnOk r P → (P → Q) → OnOk r Q
