@@ -19,7 +19,7 @@ use Rattle.em_tool.specs.declared.commands.Solo.{Solo}
 use Rattle.em_tool.specs.declared.outcome.Outcome.{Outcome}
 use Rattle.em_tool.specs.declared.outcome.Outcome.TheVariants as outcomes
 use Rattle.em_tool.specs.Words.{IsCheck, IsCommand, IsSolo}
-use Rattle.em_tool.specs.Outcome.{Reading, ReadsAll, ReadsTooMuch, most_bytes, ComesTo, HasEnded, Due, NotKnown, ReadFailed, TooLong, Refused, NotRunnable, Ran, Checked, Answers, Written, WriteFailed, NoMemory, NoMemoryWriting, status_of, status_of_end, text_of_outcome}
+use Rattle.em_tool.specs.Outcome.{Reading, ReadsAll, ReadsTooMuch, most_bytes, ComesTo, HasEnded, Due, NotKnown, ReadFailed, TooLong, Refused, NotRunnable, Ran, Checked, Answers, Written, WriteFailed, NoMemory, NoMemoryWriting, status_of, status_of_end, Told, Plain, Trace, Fits, bytes_of, told_of}
 use Rattle.em_trace.specs.Text.{text}
 use Rattle.em_tool.specs.Headline.{CanRun, CanCheck, Headline, Checked as CheckedAs, IsChecked, IsRun}
 
@@ -27,9 +27,9 @@ use Rattle.em_tool.specs.Headline.{CanRun, CanCheck, Headline, Checked as Checke
 
 -- what a script or a refusal comes to is due
 due-found : (words : List (List ℕ)) (r : Reading) (c : Command) (bytes : List ℕ) (found : Found) (o : Outcome) → IsCommand words c → ReadsAll r bytes
-    → script_of bytes ≡ found → ComesTo found c o → Due words r (status_of o) (text_of_outcome o)
+    → script_of bytes ≡ found → ComesTo found c o → Due words r (status_of o) (told_of o)
 due-found words r c bytes (Err (line, rule)) o known reads is comes =
-    subst (λ (x : Outcome). Due words r (status_of x) (text_of_outcome x)) (sym comes) (Refused c known bytes reads line rule is refl refl)
+    subst (λ (x : Outcome). Due words r (status_of x) (told_of x)) (sym comes) (Refused c known bytes reads line rule is refl refl)
 due-found words r (commands.Solo s) bytes (Ok g) outcomes.NotRunnable known reads is comes = NotRunnable s known bytes reads g is comes refl refl
 due-found words r (commands.Solo s) bytes (Ok g) (outcomes.Ran desk end) known reads is comes =
     Ran s known bytes reads g is (reverse desk.past) end comes refl refl
@@ -38,7 +38,7 @@ due-found words r (commands.Solo s) bytes (Ok g) outcomes.ReadFailed known reads
 due-found words r (commands.Solo s) bytes (Ok g) outcomes.TooLong known reads is comes = absurd comes
 due-found words r (commands.Solo s) bytes (Ok g) (outcomes.Refused line rule) known reads is comes = absurd comes
 due-found words r (commands.Solo s) bytes (Ok g) (outcomes.Checked text) known reads is comes = absurd comes
-due-found words r commands.Check bytes (Ok g) (outcomes.Checked text) known reads is comes = Checked known bytes reads g is refl comes
+due-found words r commands.Check bytes (Ok g) (outcomes.Checked text) known reads is comes = Checked known bytes reads g is refl (ap Plain comes)
 due-found words r commands.Check bytes (Ok g) outcomes.NotKnown known reads is comes = absurd comes
 due-found words r commands.Check bytes (Ok g) outcomes.ReadFailed known reads is comes = absurd comes
 due-found words r commands.Check bytes (Ok g) outcomes.TooLong known reads is comes = absurd comes
@@ -48,7 +48,7 @@ due-found words r commands.Check bytes (Ok g) (outcomes.Ran desk end) known read
 
 -- what the bytes come to is due
 pub due-of : (words : List (List ℕ)) (r : Reading) (c : Command) (bytes : List ℕ) (o : Outcome) → IsCommand words c → ReadsAll r bytes
-    → ComesTo (script_of bytes) c o → Due words r (status_of o) (text_of_outcome o)
+    → ComesTo (script_of bytes) c o → Due words r (status_of o) (told_of o)
 due-of words r c bytes o known reads comes = due-found words r c bytes (script_of bytes) o known reads refl comes
 
 -- ---- what was read
@@ -102,22 +102,22 @@ no-end n k EndKind.Quiet is a b ended_so = a (sym is ∙ ended_so)
 no-end n k EndKind.Limit is a b ended_so = b (sym is ∙ ended_so)
 
 module _ (found : AreFound) where
-  headline-due : (words : List (List ℕ)) (r : Reading) (status : ℕ) (told left : List ℕ) (before after : Option (List ℕ)) (solo : Solo) (end : EndKind)
-      → Due words r status told → IsSolo words solo → status ≡ status_of_end end → r.left ≡ Some left → after ≡ append_known before told
-      → Headline solo left end before after
-  headline-due words r status told left before after solo end (NotKnown none touched is same) known ended_so at written =
+  headline-due : (words : List (List ℕ)) (r : Reading) (status : ℕ) (told : Told) (left : List ℕ) (before after : Option (List ℕ)) (solo : Solo) (end : EndKind)
+      → Due words r status told → IsSolo words solo → status ≡ status_of_end end → r.left ≡ Some left → Fits told
+      → after ≡ append_known before (bytes_of told) → Headline solo left end before after
+  headline-due words r status told left before after solo end (NotKnown none touched is same) known ended_so at fits written =
       absurd (no-end status 2 end is (λ h. absurd (cc (h))) (λ h. absurd (cc (h))) ended_so)
-  headline-due words r status told left before after solo end (ReadFailed c is_c risen is same) known ended_so at written =
+  headline-due words r status told left before after solo end (ReadFailed c is_c risen is same) known ended_so at fits written =
       absurd (no-end status 5 end is (λ h. absurd (cc (h))) (λ h. absurd (cc (h))) ended_so)
-  headline-due words r status told left before after solo end (TooLong c is_c much is same) known ended_so at written =
+  headline-due words r status told left before after solo end (TooLong c is_c much is same) known ended_so at fits written =
       absurd (no-end status 6 end is (λ h. absurd (cc (h))) (λ h. absurd (cc (h))) ended_so)
-  headline-due words r status told left before after solo end (Refused c is_c bytes reads line rule script is same) known ended_so at written =
+  headline-due words r status told left before after solo end (Refused c is_c bytes reads line rule script is same) known ended_so at fits written =
       absurd (no-end status 4 end is (λ h. absurd (cc (h))) (λ h. absurd (cc (h))) ended_so)
-  headline-due words r status told left before after solo end (NotRunnable s is_s bytes reads graph script stays is same) known ended_so at written =
+  headline-due words r status told left before after solo end (NotRunnable s is_s bytes reads graph script stays is same) known ended_so at fits written =
       absurd (no-end status 4 end is (λ h. absurd (cc (h))) (λ h. absurd (cc (h))) ended_so)
-  headline-due words r status told left before after solo end (Checked check bytes reads graph script is same) known ended_so at written =
+  headline-due words r status told left before after solo end (Checked check bytes reads graph script is same) known ended_so at fits written =
       absurd (not-both words solo known check)
-  headline-due words r status told left before after solo end (Ran s is_s bytes reads graph script history e runs is same) known ended_so at written =
+  headline-due words r status told left before after solo end (Ran s is_s bytes reads graph script history e runs is same) known ended_so at fits written =
       let limits : s.limits ≡ solo.limits = same-limits words s solo is_s known in
       let ends : e ≡ end = end-is e end (sym is ∙ ended_so) in
       let whole = found left graph (subst (λ bs. script_of bs ≡ Ok graph) (reads-left r bytes left reads at) script) in
@@ -129,15 +129,16 @@ module _ (found : AreFound) where
         legal = subst (λ (l : Limits). IsLegal graph l history) limits runs.legal;
         laws = runs.laws;
         ended = subst (λ (l : Limits). HasEnded graph l history end) limits (subst (λ (x : EndKind). HasEnded graph s.limits history x) ends runs.ended);
-        written = written ∙ ap (append_known before) (same ∙ ap (λ (x : EndKind). text history x) ends);
+        fits = subst Fits same fits;
+        written = written ∙ ap (append_known before) (ap bytes_of same ∙ ap (λ (x : EndKind). text history x) ends);
       }
 
   headline-at : (words : List (List ℕ)) (r : Reading) (known : Option (List ℕ)) (before after : Option (List ℕ)) (faults faults_after status : ℕ) (solo : Solo) (end : EndKind)
       → Answers words r before after faults faults_after status → IsSolo words solo → status ≡ status_of_end end → r.left ≡ known
       → IfSome known (λ bytes. Headline solo bytes end before after)
   headline-at words r None before after faults faults_after status solo end answers is_solo ended_so at = tt
-  headline-at words r (Some left) before after faults faults_after status solo end (Written told due written same) is_solo ended_so at =
-      headline-due words r status told left before after solo end due is_solo ended_so at written
+  headline-at words r (Some left) before after faults faults_after status solo end (Written told due fits written same) is_solo ended_so at =
+      headline-due words r status told left before after solo end due is_solo ended_so at fits written
   headline-at words r (Some left) before after faults faults_after status solo end (WriteFailed due told it one part risen) is_solo ended_so at =
       absurd (no-end status 1 end one (λ h. absurd (cc (h))) (λ h. absurd (cc (h))) ended_so)
   headline-at words r (Some left) before after faults faults_after status solo end (NoMemory seven same sound) is_solo ended_so at =
@@ -151,8 +152,8 @@ module _ (found : AreFound) where
   headline-of words r before after faults faults_after status solo end answers is_solo ended_so =
       headline-at words r r.left before after faults faults_after status solo end answers is_solo ended_so refl
 
-  checked-due : (words : List (List ℕ)) (r : Reading) (status : ℕ) (told left : List ℕ) (before after : Option (List ℕ))
-      → Due words r status told → IsCheck words → status ≡ 0 → r.left ≡ Some left → after ≡ append_known before told
+  checked-due : (words : List (List ℕ)) (r : Reading) (status : ℕ) (told : Told) (left : List ℕ) (before after : Option (List ℕ))
+      → Due words r status told → IsCheck words → status ≡ 0 → r.left ≡ Some left → after ≡ append_known before (bytes_of told)
       → CheckedAs left before after
   checked-due words r status told left before after (NotKnown none touched is same) check zero at written = absurd (cc (is, zero))
   checked-due words r status told left before after (ReadFailed c is_c risen is same) check zero at written = absurd (cc (is, zero))
@@ -167,14 +168,14 @@ module _ (found : AreFound) where
         graph = graph;
         well_formed = whole.0;
         script = whole.1;
-        written = written ∙ ap (append_known before) same;
+        written = written ∙ ap (append_known before) (ap bytes_of same);
       }
 
   checked-at : (words : List (List ℕ)) (r : Reading) (known : Option (List ℕ)) (before after : Option (List ℕ)) (faults faults_after status : ℕ)
       → Answers words r before after faults faults_after status → IsCheck words → status ≡ 0 → r.left ≡ known
       → IfSome known (λ bytes. CheckedAs bytes before after)
   checked-at words r None before after faults faults_after status answers check zero at = tt
-  checked-at words r (Some left) before after faults faults_after status (Written told due written same) check zero at =
+  checked-at words r (Some left) before after faults faults_after status (Written told due fits written same) check zero at =
       checked-due words r status told left before after due check zero at written
   checked-at words r (Some left) before after faults faults_after status (WriteFailed due told it one part risen) check zero at = absurd (cc (one, zero))
   checked-at words r (Some left) before after faults faults_after status (NoMemory seven same sound) check zero at = absurd (cc (seven, zero))
@@ -213,7 +214,7 @@ run-status n EndKind.Quiet is = inl is
 run-status n EndKind.Limit is = inr (inl is)
 
 module _ (read : AreRead) where
-  run-due : (words : List (List ℕ)) (r : Reading) (status : ℕ) (told left : List ℕ) (w w' : ℕ) → Due words r status told → r.left ≡ Some left
+  run-due : (words : List (List ℕ)) (r : Reading) (status : ℕ) (told : Told) (left : List ℕ) (w w' : ℕ) → Due words r status told → r.left ≡ Some left
       → CanRun words left r.faults r.faults_after w w' → IsRun status
   run-due words r status told left w w' (NotKnown none touched is same) at can = absurd (none (commands.Solo can.solo) can.known)
   run-due words r status told left w w' (ReadFailed c is_c risen is same) at can = absurd (can.read risen)
@@ -229,7 +230,7 @@ module _ (read : AreRead) where
       → Answers words r before after faults faults_after status → r.left ≡ known
       → IfSome known (λ bytes. CanRun words bytes r.faults r.faults_after faults faults_after → IsRun status)
   run-at words r None before after faults faults_after status answers at = tt
-  run-at words r (Some left) before after faults faults_after status (Written told due written same) at =
+  run-at words r (Some left) before after faults faults_after status (Written told due fits written same) at =
       λ can. run-due words r status told left faults faults_after due at can
   run-at words r (Some left) before after faults faults_after status (WriteFailed due told it one part risen) at = λ can. absurd (can.wrote risen)
   run-at words r (Some left) before after faults faults_after status (NoMemory seven same sound) at = λ can. inr (inr seven)
@@ -240,7 +241,7 @@ module _ (read : AreRead) where
       → IfSome r.left (λ bytes. CanRun words bytes r.faults r.faults_after faults faults_after → IsRun status)
   run-of words r before after faults faults_after status answers = run-at words r r.left before after faults faults_after status answers refl
 
-  check-due : (words : List (List ℕ)) (r : Reading) (status : ℕ) (told left : List ℕ) (w w' : ℕ) → Due words r status told → r.left ≡ Some left
+  check-due : (words : List (List ℕ)) (r : Reading) (status : ℕ) (told : Told) (left : List ℕ) (w w' : ℕ) → Due words r status told → r.left ≡ Some left
       → CanCheck words left r.faults r.faults_after w w' → status ≡ 0
   check-due words r status told left w w' (NotKnown none touched is same) at can = absurd (none commands.Check can.check)
   check-due words r status told left w w' (ReadFailed c is_c risen is same) at can = absurd (can.read risen)
@@ -255,7 +256,7 @@ module _ (read : AreRead) where
       → Answers words r before after faults faults_after status → r.left ≡ known
       → IfSome known (λ bytes. CanCheck words bytes r.faults r.faults_after faults faults_after → IsChecked status)
   check-at words r None before after faults faults_after status answers at = tt
-  check-at words r (Some left) before after faults faults_after status (Written told due written same) at =
+  check-at words r (Some left) before after faults faults_after status (Written told due fits written same) at =
       λ can. inl (check-due words r status told left faults faults_after due at can)
   check-at words r (Some left) before after faults faults_after status (WriteFailed due told it one part risen) at = λ can. absurd (can.wrote risen)
   check-at words r (Some left) before after faults faults_after status (NoMemory seven same sound) at = λ can. inr seven
@@ -269,7 +270,7 @@ module _ (read : AreRead) where
 -- ---- what is written
 
 -- the whole text that is due was written, with its status
-pub written-as : (words : List (List ℕ)) (r : Reading) (before after : Option (List ℕ)) (faults faults_after status due : ℕ) (told : List ℕ) → status ≡ due
-    → Due words r due told → after ≡ append_known before told → faults_after ≡ faults → Answers words r before after faults faults_after status
-written-as words r before after faults faults_after status due told is why whole same =
-    subst (λ (n : ℕ). Answers words r before after faults faults_after n) (sym is) (Written told why whole same)
+pub written-as : (words : List (List ℕ)) (r : Reading) (before after : Option (List ℕ)) (faults faults_after status due : ℕ) (told : Told) → status ≡ due
+    → Due words r due told → Fits told → after ≡ append_known before (bytes_of told) → faults_after ≡ faults → Answers words r before after faults faults_after status
+written-as words r before after faults faults_after status due told is why fits whole same =
+    subst (λ (n : ℕ). Answers words r before after faults faults_after n) (sym is) (Written told why fits whole same)

@@ -6,7 +6,7 @@ use Rattle.std.proofs.lemmas.List.{length-drop, length-take-le, take-append-drop
 use Rattle.std.proofs.lemmas.List.Folds.{drop_split}
 use Rattle.std.proofs.Math.Seq.{take-append-add}
 use Rattle.em_io.specs.Sink.{AppendsPrefix}
-use Rattle.em_trace.proofs.Appending.{appends_then, prefix_then}
+use Rattle.em_io.proofs.Writing.{appends_then, prefix_then}
 
 -- a piece ends where the text does, or before
 pub piece-end : (bytes : List ℕ) (at n : ℕ) → at ≤ length bytes → n ≤ length (take (length bytes - at) (drop at bytes)) → at + n ≤ length bytes

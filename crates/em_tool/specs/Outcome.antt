@@ -1,5 +1,5 @@
 -- What a call of a command comes to: the status and the text that are due, and what is written of it.
-use Rattle.std.specs.Prelude.{ℕ, ◌≡◌, ◌<◌, ◌≤◌, ◌++◌, List, [], ◌∷◌, length, reverse, codes, false, Option, IfSome, IsTrue, Ok, Err}
+use Rattle.std.specs.Prelude.{ℕ, ◌≡◌, ◌<◌, ◌≤◌, ◌+◌, ◌++◌, List, [], ◌∷◌, length, reverse, codes, false, Option, IfSome, IsTrue, Ok, Err}
 use Rattle.std.specs.Fmt.{decimal}
 use Rattle.std.specs.Io.KnownBytes.{append_known, IsAtEnd}
 use Rattle.em_log.specs.declared.graph.Config.{Config}
@@ -9,13 +9,14 @@ use Rattle.em_log.specs.declared.ids.EndKind.{EndKind}
 use Rattle.em_log.specs.Declarations.{declarations_of}
 use Rattle.em_log.specs.Eligible.{is_quiet, is_at_limit}
 use Rattle.em_log.specs.Legal.{IsLegal}
-use Rattle.em_io.specs.Faults.{HasRisen, HasRisenBeyond}
+use Rattle.em_io.specs.Faults.{HasRisen}
 use Rattle.em_io.specs.Sink.{AppendsPrefix}
 use Rattle.em_io.specs.Source.{Takes}
 use Rattle.em_laws.specs.AllLaws.{KeepsLaws}
 use Rattle.em_drive.specs.Runnable.{is_runnable}
 use Rattle.em_script.specs.Reading.{Found, script_of}
 use Rattle.em_script.specs.Spelling.{spelling}
+use Rattle.em_trace.specs.Fitting.{AreEntries}
 use Rattle.em_trace.specs.Text.{text}
 use Rattle.em_tool.specs.declared.commands.Command.{Command}
 use Rattle.em_tool.specs.declared.commands.Command.TheVariants as commands
@@ -53,7 +54,7 @@ pub record ReadsAll (r : Reading) (bytes : List ℕ) : Type 0 where
 
 -- more bytes were taken than a script may have, and no call failed
 pub record ReadsTooMuch (r : Reading) : Type 0 where
-  pub given : HasRisenBeyond most_bytes r.given r.given_after
+  pub given : r.given + most_bytes < r.given_after
   pub left : IfSome r.left (λ bytes. most_bytes < length bytes)
   pub faults : r.faults_after ≡ r.faults
 
@@ -103,14 +104,28 @@ status_of outcomes.NotRunnable = 4
 status_of (outcomes.Ran desk end) = status_of_end end
 status_of (outcomes.Checked bytes) = 0
 
-abbrev pub text_of_outcome : Outcome → List ℕ
-text_of_outcome outcomes.NotKnown = not_known_text
-text_of_outcome outcomes.ReadFailed = read_failed_text
-text_of_outcome outcomes.TooLong = too_long_text
-text_of_outcome (outcomes.Refused line rule) = refused_text line rule
-text_of_outcome outcomes.NotRunnable = not_runnable_text
-text_of_outcome (outcomes.Ran desk end) = text (reverse desk.past) end
-text_of_outcome (outcomes.Checked bytes) = bytes.items
+-- what is written: a line or a spelling, or the trace of a run
+pub data Told : Type 0 where
+  Plain : List ℕ → Told
+  Trace : List Entry → EndKind → Told
+
+abbrev pub bytes_of : Told → List ℕ
+bytes_of (Plain bytes) = bytes
+bytes_of (Trace history end) = text history end
+
+-- the numbers of a trace fit their types, so that its text is that of no other such history
+abbrev pub Fits : Told → Type 0
+Fits (Plain bytes) = Unit {0}
+Fits (Trace history end) = AreEntries history
+
+abbrev pub told_of : Outcome → Told
+told_of outcomes.NotKnown = Plain not_known_text
+told_of outcomes.ReadFailed = Plain read_failed_text
+told_of outcomes.TooLong = Plain too_long_text
+told_of (outcomes.Refused line rule) = Plain (refused_text line rule)
+told_of outcomes.NotRunnable = Plain not_runnable_text
+told_of (outcomes.Ran desk end) = Trace (reverse desk.past) end
+told_of (outcomes.Checked bytes) = Plain bytes.items
 
 -- what a command comes to at a graph
 abbrev pub GraphComesTo : Config → Command → Outcome → Type 0
@@ -125,28 +140,28 @@ ComesTo (Ok g) command outcome = GraphComesTo g command outcome
 ComesTo (Err (line, rule)) command outcome = outcome ≡ outcomes.Refused line rule
 
 -- why this status and this text are due for these words and this reading; the first case that holds decides
-pub data Due (words : List (List ℕ)) (r : Reading) (status : ℕ) (told : List ℕ) : Type 0 where
-  NotKnown : ((c : Command) → IsCommand words c → ⊥) → IsUntouched r → status ≡ 2 → told ≡ not_known_text → Due words r status told
-  ReadFailed : (c : Command) → IsCommand words c → HasRisen r.faults r.faults_after → status ≡ 5 → told ≡ read_failed_text
+pub data Due (words : List (List ℕ)) (r : Reading) (status : ℕ) (told : Told) : Type 0 where
+  NotKnown : ((c : Command) → IsCommand words c → ⊥) → IsUntouched r → status ≡ 2 → told ≡ Plain not_known_text → Due words r status told
+  ReadFailed : (c : Command) → IsCommand words c → HasRisen r.faults r.faults_after → status ≡ 5 → told ≡ Plain read_failed_text
       → Due words r status told
-  TooLong : (c : Command) → IsCommand words c → ReadsTooMuch r → status ≡ 6 → told ≡ too_long_text → Due words r status told
+  TooLong : (c : Command) → IsCommand words c → ReadsTooMuch r → status ≡ 6 → told ≡ Plain too_long_text → Due words r status told
   Refused : (c : Command) → IsCommand words c → (bytes : List ℕ) → ReadsAll r bytes → (line rule : ℕ) → script_of bytes ≡ Err (line, rule)
-      → status ≡ 4 → told ≡ refused_text line rule → Due words r status told
+      → status ≡ 4 → told ≡ Plain (refused_text line rule) → Due words r status told
   NotRunnable : (s : Solo) → IsSolo words s → (bytes : List ℕ) → ReadsAll r bytes → (graph : Config) → script_of bytes ≡ Ok graph
-      → is_runnable graph ≡ false → status ≡ 4 → told ≡ not_runnable_text → Due words r status told
+      → is_runnable graph ≡ false → status ≡ 4 → told ≡ Plain not_runnable_text → Due words r status told
   Ran : (s : Solo) → IsSolo words s → (bytes : List ℕ) → ReadsAll r bytes → (graph : Config) → script_of bytes ≡ Ok graph
-      → (history : List Entry) → (end : EndKind) → Runs graph s.limits history end → status ≡ status_of_end end → told ≡ text history end
+      → (history : List Entry) → (end : EndKind) → Runs graph s.limits history end → status ≡ status_of_end end → told ≡ Trace history end
       → Due words r status told
   Checked : IsCheck words → (bytes : List ℕ) → ReadsAll r bytes → (graph : Config) → script_of bytes ≡ Ok graph → status ≡ 0
-      → told ≡ spelling graph → Due words r status told
+      → told ≡ Plain (spelling graph) → Due words r status told
 
 -- what was written, and the status: the text that is due, or a prefix of it with status 1 where a call on the sink
 -- failed; status 7, want of memory, is free
 pub data Answers (words : List (List ℕ)) (r : Reading) (written after : Option (List ℕ)) (faults faults_after status : ℕ) : Type 0 where
-  Written : (told : List ℕ) → Due words r status told → after ≡ append_known written told → faults_after ≡ faults
+  Written : (told : Told) → Due words r status told → Fits told → after ≡ append_known written (bytes_of told) → faults_after ≡ faults
       → Answers words r written after faults faults_after status
-  WriteFailed : (due : ℕ) (told : List ℕ) → Due words r due told → status ≡ 1 → AppendsPrefix written after told
+  WriteFailed : (due : ℕ) (told : Told) → Due words r due told → status ≡ 1 → AppendsPrefix written after (bytes_of told)
       → HasRisen faults faults_after → Answers words r written after faults faults_after status
   NoMemory : status ≡ 7 → after ≡ written → faults_after ≡ faults → Answers words r written after faults faults_after status
-  NoMemoryWriting : (due : ℕ) (told : List ℕ) → Due words r due told → status ≡ 7 → AppendsPrefix written after told
+  NoMemoryWriting : (due : ℕ) (told : Told) → Due words r due told → status ≡ 7 → AppendsPrefix written after (bytes_of told)
       → faults_after ≡ faults → Answers words r written after faults faults_after status

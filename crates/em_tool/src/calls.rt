@@ -4,7 +4,7 @@ ghost use Rattle.em_log.specs.WellFormed.{IsWellFormed};
 ghost use Rattle.em_script.specs.Reading.{script_of};
 ghost use Rattle.em_tool.specs.declared.commands.Command.{Command};
 ghost use Rattle.em_tool.specs.Words.{IsSomeCommand};
-ghost use Rattle.em_tool.specs.Outcome.{ComesTo, Due, GraphComesTo, status_of, text_of_outcome};
+ghost use Rattle.em_tool.specs.Outcome.{ComesTo, Due, GraphComesTo, status_of, told_of};
 
 use crate::commands::{Command, Solo};
 use crate::outcome::Outcome;
@@ -87,7 +87,7 @@ pub fn outcome<S: Source, G: Gate>(
           faults = S.faults source.old;
           faults_after = S.faults source.new;
         })
-        (status_of o) (text_of_outcome o)) }
+        (status_of o) (told_of o)) }
 {
     let Some(asked) = command(alloc, words)? else {
         return Ok(Outcome::NotKnown);

@@ -4,6 +4,7 @@
 mod calls;
 mod commands;
 mod decimal;
+mod laws;
 mod outcome;
 mod plain;
 mod words;
@@ -11,5 +12,6 @@ mod writing;
 
 pub use commands::{Command, Solo};
 pub use em_log::{CoreId, Gate, NoGate, QueueId};
+pub use laws::one_history;
 pub use plain::em_plain;
 pub use words::command;

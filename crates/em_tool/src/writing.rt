@@ -4,7 +4,7 @@ ghost use Rattle.std.specs.Option.{option_map_or};
 ghost use Rattle.std.specs.Io.KnownBytes.{append_known};
 ghost use Rattle.em_io.specs.Faults.{HasRisen};
 ghost use Rattle.em_io.specs.Sink.{AppendsPrefix};
-ghost use Rattle.em_tool.specs.Outcome.{refused_text, text_of_outcome};
+ghost use Rattle.em_tool.specs.Outcome.{Fits, bytes_of, refused_text, told_of};
 
 use crate::outcome::Outcome;
 use em_io::{Sink, SinkEnd};
@@ -81,8 +81,9 @@ fn put_refusal<K: Sink>(alloc: Global, sink: &mut K, line: u64, rule: u8) -> Res
 
 /// Writes the text that is due.
 pub fn write<K: Sink>(alloc: Global, sink: &mut K, outcome: &Outcome) -> Result<(), SinkEnd>
-    ensures whole { OnOk result (K.written sink.new ≡ append_known (K.written sink.old) (text_of_outcome outcome.now)) }
-    ensures part { OnErr result (AppendsPrefix (K.written sink.old) (K.written sink.new) (text_of_outcome outcome.now)) }
+    ensures whole { OnOk result (K.written sink.new ≡ append_known (K.written sink.old) (bytes_of (told_of outcome.now))) }
+    ensures part { OnErr result (AppendsPrefix (K.written sink.old) (K.written sink.new) (bytes_of (told_of outcome.now))) }
+    ensures fits { OnOk result (Fits (told_of outcome.now)) }
     ensures failed { IsErrOf result SinkEnd.Failed → HasRisen (K.faults sink.old) (K.faults sink.new) }
     ensures sound { ¬ IsErrOf result SinkEnd.Failed → K.faults sink.new ≡ K.faults sink.old }
 {

@@ -1,7 +1,9 @@
 mod devices;
+mod gates;
+mod writes;
 
 use em_io::{Sink, Source, SureSink, SureSource};
-use em_tool::{NoGate, em_plain};
+use em_tool::{Gate, NoGate, em_plain};
 use std::alloc::Global;
 use std::process::Abort;
 use std::test::*;
@@ -10,17 +12,28 @@ use std::test::*;
 type Row = (&'static str, &'static str, u8, &'static str);
 
 /// What `em_plain` answers to these words.
+fn plain_at<S: Source, K: Sink, G: Gate>(
+    alloc: Global,
+    words: &str,
+    source: &mut S,
+    sink: &mut K,
+    gate: &G,
+) -> Result<u8, Fail> {
+    let mut list = Vec::new(alloc);
+    for word in words.split_whitespace() {
+        list.push(word.to_string(alloc)?)?;
+    }
+    Ok(em_plain(alloc, list.as_slice(), source, sink, gate))
+}
+
+/// What it answers without a gate.
 fn plain<S: Source, K: Sink>(
     alloc: Global,
     words: &str,
     source: &mut S,
     sink: &mut K,
 ) -> Result<u8, Fail> {
-    let mut list = Vec::new(alloc);
-    for word in words.split_whitespace() {
-        list.push(word.to_string(alloc)?)?;
-    }
-    Ok(em_plain(alloc, list.as_slice(), source, sink, &NoGate))
+    plain_at(alloc, words, source, sink, &NoGate)
 }
 
 /// The status of a call, and what it writes.

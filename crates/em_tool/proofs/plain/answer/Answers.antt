@@ -5,7 +5,7 @@ use Rattle.em_tool.proofs.plain.answer.Goals as goal
 
 pub returns-in-Ok-write : goal.returns-in-Ok-write
 returns-in-Ok-write g c =
-    written-as _ _ _ _ _ _ _ _ _ c.status.ensures c.in-Ok.ensures c.in-Ok-write.ensures.whole (c.in-Ok-write.ensures.sound (λ h. cc))
+    written-as _ _ _ _ _ _ _ _ _ c.status.ensures c.in-Ok.ensures c.in-Ok-write.ensures.fits c.in-Ok-write.ensures.whole (c.in-Ok-write.ensures.sound (λ h. cc))
 
 pub returns-in-Err-Failed : goal.returns-in-Err-Failed
 returns-in-Err-Failed g c =
