@@ -1,32 +1,26 @@
-pub mod Booted
+mod Mapped
+pub mod Served
+pub mod Unordered
+mod Rooms
+mod Contexts
+mod Begun
+mod Performed
+mod Listed
+mod Asked
+mod Distinct
+mod Minting
+mod Allocs
+mod Sends
+mod KeptEvents
+mod Ends
+mod Made
+mod Below
+mod Stages
+mod Ready
 pub mod Numbers
-pub mod Ready
-pub mod Spares
-pub mod Taking
-pub mod Taken
-pub mod Reserved
-pub mod Beginning
-pub mod Newest
-pub mod FirstFree
-pub mod Plain
-pub mod Graphs
-pub mod Alike
-pub mod Spendings
-pub mod Room
-pub mod Parking
-pub mod Asking
-pub mod Next
-pub mod Silent
-pub mod Owned
-pub mod Distinct
-pub mod Frees
-pub mod Refusing
-pub mod Parks
-pub mod Sends
-pub mod KeptEvents
-pub mod Ends
-pub mod Mints
-pub mod Allocs
-pub mod Claims
-pub mod Mapped
-pub mod Histories
+mod Boots
+mod Receives
+mod Ended
+mod Built
+mod TakeAnswers
+mod QueueSets

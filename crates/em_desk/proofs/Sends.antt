@@ -1,184 +1,219 @@
--- What a send leaves of what the desk keeps.
-use Rattle.std.proofs.Common.{◌≡◌, ◌≢◌, ◌⊎◌, inl, inr, ℕ, ◌<◌, ◌≤◌, ◌==◌, nat_lt, Bool, true, false, ◌&&◌, [], ◌∷◌, ◌++◌, List, length, length-append, Option, Some, None, refl, ap, sym, ◌∙◌, subst, arith, IsTrue, slice_set}
-use Rattle.std.specs.Option.{option_or, option_map}
-use Rattle.std.proofs.lemmas.Bool.Decides.{eqb_tells}
-use borrow.Author.Tests.{ltb-true}
+-- What a send leaves to do.
+use Rattle.std.proofs.Common.{◌≡◌, ℕ, ◌<◌, ◌==◌, Bool, true, false, ◌||◌, ◌&&◌, [], ◌∷◌, List, length, map, Option, Some, None, is_none, is_some, refl, ap, sym, ◌∙◌, subst, arith}
+use Rattle.std.specs.Option.{option_map, option_or, option_and_then}
+use Rattle.std.proofs.lemmas.Bool.{eq-eqb, ltb-true}
 use Rattle.em_log.specs.declared.ask.Ask.{Ask}
 use Rattle.em_log.specs.declared.declarations.Declarations.{Declarations}
+use Rattle.em_log.specs.declared.entry.Event.{Event}
 use Rattle.em_log.specs.declared.entry.What.{What}
 use Rattle.em_log.specs.declared.fault.Fault.{Fault}
-use Rattle.em_log.specs.declared.ids.Limits.{Limits}
 use Rattle.em_log.specs.declared.ids.QueueId.{QueueId}
-use Rattle.em_log.specs.History.{Past, entry_by, index_of}
-use Rattle.em_log.specs.Declarations.{event_total}
-use Rattle.em_log.specs.Handles as log
-use Rattle.em_log.specs.Leads.{refusal, own, lead}
+use Rattle.em_log.specs.History.{Past, entry_by, has, index_of}
+use Rattle.em_log.specs.Declarations.{event_total, kind_of, is_output}
+use Rattle.em_log.specs.Handles.{Minting, Spending, minting, spending, rule, rule_of}
 use Rattle.em_log.specs.Order.{Ticket}
-use Rattle.em_log.specs.Places.{waiting}
-use Rattle.em_log.specs.Tails.{tail}
-use Rattle.em_log.specs.Lawful.{Asks, may_ask}
-use Rattle.em_log.specs.Allowance.{left}
+use Rattle.em_log.specs.States.{closed}
+use Rattle.em_log.specs.Arrivals.{Item}
+use Rattle.em_log.specs.Places.{waiting, taken, has_item}
+use Rattle.em_log.specs.Leads.{refusal, closed_fault}
+use Rattle.em_log.specs.Atomic.{holds}
+use Rattle.em_log.specs.Contexts.{context}
+use Rattle.em_log.specs.Lawful.{is_ask, is_declared, is_typed, is_placed, is_queue}
+use Rattle.em_laws.proofs.Cores.{eqb-eq, some-inj}
+use Rattle.std.proofs.lemmas.Bool.{or_right}
 use Rattle.em_pool.specs.declared.place.Place.{Place}
 use Rattle.em_pool.specs.declared.place.Spend.{Spend}
 use Rattle.em_pool.specs.Steps.{Spent}
-use Rattle.em_pool.specs.Places.{place, can_shift}
-use Rattle.em_pool.specs.State.{PoolState}
+use Rattle.em_pool.specs.Places.{can_shift}
+use Rattle.em_pool.specs.Spots.{spot}
+use Rattle.em_pool.specs.State.{event_at}
+use Rattle.em_pool.specs.Handles as pool
 use Rattle.em_pool.specs.Stands as pools
-use Rattle.em_desk.specs.declared.opening.Opening.{Opening}
-use Rattle.em_desk.specs.Simple.{IsSimple}
-use Rattle.em_desk.specs.Plain.{Sends, ArePlain}
-use Rattle.em_desk.specs.Parts.{pool_steps}
-use Rattle.em_desk.specs.Lines.{LinesState, list_at}
-use Rattle.em_desk.specs.Stands.{Keeps, IsParked, IsWaiting, Pairs, NoneTwice, spares}
-use Rattle.em_desk.proofs.Asking.{may-open, may-declared}
-use Rattle.em_desk.proofs.Distinct.{list-same, list-other, not-in, once-more, few}
-use Rattle.em_desk.proofs.Frees.{spent-stays}
-use Rattle.em_desk.proofs.Graphs.{not-output, never-closed}
-use Rattle.em_desk.proofs.Owned.{IsOwned, owned}
-use Rattle.em_desk.proofs.Parking.{waiting-parked, pairs-map, pairs-add}
-use Rattle.em_desk.proofs.Parks.{owned-parked, send_of, sent_item, waiting-sent, waiting-elsewhere, gone-sent}
-use Rattle.em_desk.proofs.Plain.{no-ticket}
-use Rattle.em_desk.proofs.Next.{IsMild, PartsStand, parts-of, Kept, keeps-next}
-use Rattle.em_desk.proofs.Silent.{own-lead}
+use Rattle.em_queues.specs.Steps.{is_listed}
+use Rattle.em_parts.specs.QueueSteps.{queue_steps}
+use Rattle.em_parts.specs.QueueAlike.{index_in}
+use Rattle.em_parts.proofs.Mintings.{same-minting, same-last}
+use Rattle.em_places.specs.Parked.{InContext, InQueue, InTaken, Sits}
+use Rattle.em_places.proofs.Parked.{parked-sit}
+use Rattle.em_desk.specs.declared.parts.Parts.{Parts}
+use Rattle.em_desk.specs.Acts.{send_act, IsReady}
+use Rattle.em_desk.specs.Served.{is_free_of_order}
+use Rattle.em_desk.specs.Standing.{Standing, Stands, AreKept}
+use Rattle.em_desk.specs.State.{MayAsk}
+use Rattle.em_desk.proofs.Served.{closed-declared}
+use Rattle.em_desk.proofs.Unordered.{no-ticket}
+use Rattle.em_desk.proofs.Listed.{Located, InQueue as ListedQueue, IsTaken, located}
+use Rattle.em_desk.proofs.Asked.{steps_of, own-lead, kept-same}
+use Rattle.em_desk.proofs.Begun.{pushed, IsCause, IsAsked, asked-begun, settled-pools}
 
-pub mild-send : (h : ℕ) (q : QueueId) → IsMild (send_of h q)
-mild-send h q =
-    record { plain = Sends (record { 0 = h }) q refl; context = λ o. refl; no_end = λ o. refl; taken = λ k past c xs. refl; started = λ n. refl; leads = λ k past b ls. refl }
+-- a handle that a core may use
 
--- what waits differs from an event that a core holds
-waits-apart : (k : Declarations) (past : Past) (c w q : ℕ) (x : _) (j : ℕ) → IsOwned k past c w → IsWaiting k past q x j → j ≢ index_of w
-waits-apart k past c w q x j o p = λ (e : j ≡ index_of w).
-    let there : place (pool_steps k past) (index_of w) ≡ Place.Waiting (record { 0 = q }) =
-    subst (λ i. place (pool_steps k past) i ≡ Place.Waiting (record { 0 = q })) e p.parked.place in
-    absurd (cc (there, o.held))
+pub record IsOurs (k : Declarations) (past : Past) (w : ℕ) : Type 0 where
+  pub minter : Minting
+  pub minting : minting past w ≡ Some minter
+  pub sits : Sits k past w (Place.Held (record { 0 = minter.core }))
 
--- so the queue's list has room for it
-pub queue-room : (k : Declarations) (past : Past) (p : PoolState) (queues objects : LinesState) (c w q : ℕ) → PartsStand k past p queues objects
-    → IsOwned k past c w → q < length k.queues → length (list_at queues q) < queues.room
-queue-room k past p queues objects c w q s o lt =
-    let waits = s.waits q 0 lt in
-    let apart = not-in (IsWaiting k past q) (waiting k past q 0) (list_at queues q) (index_of w) (λ x j. waits-apart k past c w q x j o) waits in
-    let all = few (λ x j. j < event_total k.pools) (waiting k past q 0 ++ sent_item w o.minting.0 ∷ []) (list_at queues q ++ index_of w ∷ []) (event_total k.pools)
-    (λ x j lt. lt)
-    (pairs-add (λ x j. j < event_total k.pools) (waiting k past q 0) (list_at queues q) (sent_item w o.minting.0) (index_of w)
-    (pairs-map (IsWaiting k past q) (λ x j. j < event_total k.pools) (waiting k past q 0) (list_at queues q) (λ x j h. h.parked.below) waits) o.below)
-    (once-more (list_at queues q) (index_of w) (s.waiting_once q) apart) in
-    let more = length-append (list_at queues q) (index_of w ∷ []) in
-    let room = s.queue_room in
-    omega (arith, all, more, room)
+owned-cases : (c w : ℕ) (m : Option Minting) (sp : Option Spending) → rule_of c w m sp ≡ None → (n : Minting) × (m ≡ Some n) × (sp ≡ None)
+owned-cases c w None sp e = absurd (cc e)
+owned-cases c w (Some m) (Some s) e = absurd (cc e)
+owned-cases c w (Some m) None e = (m, refl, refl)
 
-parts-send : (k : Declarations) (past : Past) (p p' : PoolState) (queues objects queues' : LinesState) (c h : ℕ) (q : QueueId) → IsSimple k
-    → PartsStand k past p queues objects → IsOwned k past c h → q.0 < length k.queues
-    → pools.Stands p' (Spent c h (Spend.Sent q) (length past) ∷ pool_steps k past) → p'.pools ≡ p.pools
-    → queues'.lists ≡ slice_set queues.lists q.0 (list_at queues q.0 ++ index_of h ∷ []) → length queues'.lists ≡ length queues.lists → queues'.room ≡ queues.room
-    → PartsStand k (entry_by c (send_of h q) ∷ past) p' queues' objects
-parts-send k past p p' queues objects queues' c h q simple s o declared stands same lists len room =
-    let now : Past = entry_by c (send_of h q) ∷ past in
-    let stays : (at : Place) (j i : ℕ) → can_shift at ≡ true → IsParked k past at j i → IsParked k now at j i =
-    λ at j i. spent-stays k past c h (send_of h q) (Spend.Sent q) at j i refl refl in
-    let m = o.minting.0 in
-    let is = o.minting.1 in
-    let parked : IsWaiting k now q.0 (sent_item h m) (index_of h) =
+pub is-ours : (p : Parts) (c w : ℕ) → Stands p → rule p.history.past c w ≡ None → IsOurs p.declarations p.history.past w
+is-ours p c w s ok =
+    let o = owned-cases c w (minting p.history.past w) (spending p.history.past w) ok in
+    let few = s.fixed.graph.events in
+    record { minter = o.0; minting = o.1; sits = parked-sit p.declarations p.limits p.history.past (omega (arith, few)) s.all w (Place.Held (record { 0 = o.0.core })) (InContext o.0 o.1 o.2 refl) }
+
+-- the pools have its event
+pub event-is : (p : Parts) (w : ℕ) → Stands p → (o : IsOurs p.declarations p.history.past w) → event_at p.pools (index_of w) ≡ Some o.minter.event
+event-is p w s o =
+    let stands = settled-pools p 0 s in
+    let last : pool.last_handle (steps_of p) (index_of w) ≡ Some w = same-last p.declarations p.history.past (index_of w) ∙ o.sits.last in
+    let mint : pool.minting (steps_of p) w ≡ Some o.minter = same-minting p.declarations p.history.past w ∙ o.minting in
+    sym (stands.events (index_of w))
+    ∙ (ap (λ (h : Option ℕ). option_map pool.event_of (option_and_then (pool.minting (steps_of p)) h)) last
+    ∙ ap (option_map pool.event_of) mint)
+
+-- an index in a list of items is that of an item
+record ItemAt (xs : List Item) (i : ℕ) : Type 0 where
+  handle : ℕ
+  there : has_item xs handle ≡ true
+  index : index_of handle ≡ i
+
+item-at : (xs : List Item) (i : ℕ) → has (map index_in xs) i ≡ true → ItemAt xs i
+item-at [] i h = absurd (cc h)
+item-at (x ∷ xs) i h = by_test (index_of x.handle == i) refl h (item-at xs i)
+  where
+    own : (x.handle == x.handle) ≡ true
+    own = eq-eqb x.handle x.handle refl
+
+    by_test : (b : Bool) → (index_of x.handle == i) ≡ b → (b || has (map index_in xs) i) ≡ true → (has (map index_in xs) i ≡ true → ItemAt xs i) → ItemAt (x ∷ xs) i
+    by_test true t h rest = record { handle = x.handle; there = rw own refl; index = eqb-eq (index_of x.handle) i t }
+    by_test false t h rest = let r = rest h in record { handle = r.handle; there = or_right (x.handle == r.handle) (has_item xs r.handle) r.there; index = r.index }
+
+-- its event is in no list
+pub is-unlisted : (p : Parts) (w : ℕ) → Stands p → IsOurs p.declarations p.history.past w → is_listed p.declarations (queue_steps p.declarations p.history.past) (index_of w) ≡ false
+is-unlisted p w s o = by_test (is_listed p.declarations (queue_steps p.declarations p.history.past) (index_of w)) refl
+  where
+    nowhere : Located p.declarations p.history.past (index_of w) → ⊥
+    nowhere (ListedQueue q c inner h) =
+        let found = item-at (waiting p.declarations p.history.past q c) (index_of w) h in
+        let few = s.fixed.graph.events in
+        let sits = parked-sit p.declarations p.limits p.history.past (omega (arith, few)) s.all found.handle (Place.Waiting (record { 0 = q })) (InQueue q c inner found.there refl) in
+        let there : spot (steps_of p) (index_of w) ≡ Place.Waiting (record { 0 = q }) = ap (spot (steps_of p)) (sym found.index) ∙ sits.spot in
+        cc (there, o.sits.spot)
+    nowhere (IsTaken c h) =
+        let found = item-at (taken p.declarations p.history.past c) (index_of w) h in
+        let few = s.fixed.graph.events in
+        let sits = parked-sit p.declarations p.limits p.history.past (omega (arith, few)) s.all found.handle (Place.Taken (record { 0 = c })) (InTaken c found.there refl) in
+        let there : spot (steps_of p) (index_of w) ≡ Place.Taken (record { 0 = c }) = ap (spot (steps_of p)) (sym found.index) ∙ sits.spot in
+        cc (there, o.sits.spot)
+
+    by_test : (b : Bool) → is_listed p.declarations (queue_steps p.declarations p.history.past) (index_of w) ≡ b
+        → is_listed p.declarations (queue_steps p.declarations p.history.past) (index_of w) ≡ false
+    by_test true t = absurd (nowhere (located p.declarations p.limits p.history.past s.all (index_of w) t))
+    by_test false t = t
+
+-- the send
+
+abbrev pub send_of : ℕ → QueueId → What
+send_of w q = What.Send (record { 0 = w }) q None None
+
+pub send-cause : (k : Declarations) (past : Past) (c w : ℕ) (q : QueueId) (m : Minting) → minting past w ≡ Some m
+    → IsCause k past c (send_of w q) (send_act k m.event c w q ∷ [])
+send-cause k past c w q m is = by_kind (is_output (kind_of k q.0)) refl
+  where
+    by_kind : (b : Bool) → is_output (kind_of k q.0) ≡ b → IsCause k past c (send_of w q) (send_act k m.event c w q ∷ [])
+    by_kind true t = record { pools = λ s. rw t refl; queues = λ s. rw t refl; tail = rw (t, is) refl }
+    by_kind false t = record { pools = λ s. rw t refl; queues = λ s. rw (t, is) refl; tail = rw t refl }
+
+send-ready : (p : Parts) (e : Event) (c w : ℕ) (q : QueueId) → Stands p → index_of w < event_total p.declarations.pools → c < p.declarations.cores
+    → q.0 < length p.declarations.queues → is_listed p.declarations (queue_steps p.declarations p.history.past) (index_of w) ≡ false
+    → IsReady p.declarations (Spent c w (Spend.Sent q) (length p.history.past) ∷ steps_of p) (queue_steps p.declarations p.history.past) (send_act p.declarations e c w q)
+send-ready p e c w q s lt core queue absent = by_kind (is_output (kind_of p.declarations q.0)) refl
+  where
+    own : (index_of w == index_of w) ≡ true
+    own = eq-eqb (index_of w) (index_of w) refl
+
+    can : can_shift (spot (Spent c w (Spend.Sent q) (length p.history.past) ∷ steps_of p) (index_of w)) ≡ true
+    can = rw own refl
+
+    by_kind : (b : Bool) → is_output (kind_of p.declarations q.0) ≡ b
+        → IsReady p.declarations (Spent c w (Spend.Sent q) (length p.history.past) ∷ steps_of p) (queue_steps p.declarations p.history.past) (send_act p.declarations e c w q)
+    by_kind true t = rw t (record { moves = (lt, (can, refl)); enters = tt; says = tt })
+    by_kind false t = rw t (record { moves = tt; enters = (lt, (queue, (core, absent))); says = tt })
+
+none-is : (o : Option ℕ) → is_none o ≡ true → o ≡ None
+none-is None h = refl
+none-is (Some x) h = absurd cc
+
+first-and : (a b : Bool) → (a && b) ≡ true → a ≡ true
+first-and true b h = refl
+first-and false b h = absurd cc
+
+last-and : (a b : Bool) → (a && b) ≡ true → b ≡ true
+last-and true b h = h
+last-and false b h = absurd cc
+
+-- the queue is open
+pub open-now : (p : Parts) (c w : ℕ) (q : QueueId) → Stands p → MayAsk p.declarations p.history.past c (Ask.Send w q None) → closed p.declarations p.history.past q.0 ≡ None
+open-now p c w q s may =
+    closed-declared p.declarations p.history.past q.0 s.served
+    ∙ none-is (closed p.declarations [] q.0) (last-and (is_free_of_order p.declarations q.0) (is_none (closed p.declarations [] q.0)) may.served)
+
+pub send-refusal : (p : Parts) (c w : ℕ) (q : QueueId) (o : Option Fault) → Stands p → MayAsk p.declarations p.history.past c (Ask.Send w q None) → rule p.history.past c w ≡ o
+    → refusal p.declarations p.history.past c (Ask.Send w q None) ≡ o
+send-refusal p c w q None s may ok =
+    ap (λ (f : Option Fault). option_or f (closed_fault p.declarations p.history.past q.0)) ok
+    ∙ ap (option_map (λ (why : ℕ). Fault.QueueClosed why)) (open-now p c w q s may)
+send-refusal p c w q (Some f) s may ok = ap (λ (f : Option Fault). option_or f (closed_fault p.declarations p.history.past q.0)) ok
+
+abbrev number_of : Ticket → ℕ
+number_of t = t.number
+
+pub send-asked : (p : Parts) (c w : ℕ) (q : QueueId) → Stands p → MayAsk p.declarations p.history.past c (Ask.Send w q None) → rule p.history.past c w ≡ None
+    → IsAsked p c (Ask.Send w q None) (send_of w q)
+send-asked p c w q s may ok =
     record {
-      parked = owned-parked k past c h (send_of h q) (Spend.Sent q) o (s.unshifted (index_of h)) refl refl refl;
-      item = rw is refl;
-    } in
-    record {
-      unshifted = s.unshifted;
-      pools = stands;
-      shapes = same ∙ s.shapes;
-      minted_below = s.minted_below;
-      queue_lists = len ∙ s.queue_lists;
-      queue_room = room ∙ s.queue_room;
-      gone_within = λ r d. gone-sent k past q r d c h m simple is (s.gone_within r d);
-      waits = λ r d lt. by_queue stays parked r d lt (pairs-map _ _ _ _ (λ x i. waiting-parked k past now r x i (λ h. stays _ h i refl) refl) (s.waits r d lt)) (eqb_tells q.0 r);
-      waiting_once = λ r. once_at r (eqb_tells q.0 r);
-      object_lists = s.object_lists;
-      object_room = s.object_room;
-      keeps = λ x lt. pairs-map _ _ _ _ (λ h i. stays _ h i refl) (s.keeps x lt);
-      kept_once = s.kept_once;
+      core = may.core;
+      may = may.may;
+      gives = ap (λ (t : Option Ticket). What.Send (record { 0 = w }) q (option_map number_of t) None) (sym (no-ticket p.declarations p.limits p.history.past c s.all s.served))
+          ∙ own-lead p.declarations p.history.past c (Ask.Send w q None) (send-refusal p c w q None s may ok);
+      enough = may.enough;
+      mild = record {
+        context = λ o. refl;
+        leads = λ k past b ls. refl;
+        begun = λ n c o. refl;
+        started = λ n. refl;
+        pays = omega arith;
+        served = λ c t. refl;
+      };
     }
-  where
-    set : q.0 < length queues.lists
-    set = let e = s.queue_lists in omega arith
 
-    here : list_at queues' q.0 ≡ list_at queues q.0 ++ index_of h ∷ []
-    here = list-same queues queues' q.0 (list_at queues q.0 ++ index_of h ∷ []) set lists
+pub send-begun : (p q : Parts) (c w : ℕ) (to : QueueId) (e : Event) → Stands p → MayAsk p.declarations p.history.past c (Ask.Send w to None) → rule p.history.past c w ≡ None
+    → index_of w < event_total p.pools.pools → to.0 < length p.declarations.queues → event_at p.pools (index_of w) ≡ Some e
+    → pools.Stands q.pools (Spent c w (Spend.Sent to) (length p.history.past) ∷ steps_of p) → q.pools.pools ≡ p.pools.pools → q.pools.spare ≡ p.pools.spare → q.kept ≡ p.kept
+    → Standing (record p { history = pushed p c (send_of w to); pools = q.pools; kept = q.kept }) c (send_act p.declarations e c w to ∷ [])
+send-begun p q c w to e s may ok within queue event stands shapes spare kept =
+    let ours = is-ours p c w s ok in
+    let inside : index_of w < event_total p.declarations.pools = subst (λ ps. index_of w < event_total ps) s.pool_shape within in
+    let same : ours.minter.event ≡ e = some-inj _ _ (sym (event-is p w s ours) ∙ event) in
+    subst (λ (e : Event). Standing (record p { history = pushed p c (send_of w to); pools = q.pools; kept = q.kept }) c (send_act p.declarations e c w to ∷ [])) same
+    (asked-begun p q c (Ask.Send w to None) (send_of w to) (send_act p.declarations ours.minter.event c w to ∷ []) s (send-asked p c w to s may ok) may.served
+    (send-cause p.declarations p.history.past c w to ours.minter ours.minting) may.core stands shapes (omega (arith, spare))
+    (send-ready p ours.minter.event c w to s inside may.core queue (is-unlisted p w s ours), (refl, tt))
+    (subst (λ v. AreKept p.declarations (entry_by c (send_of w to) ∷ p.history.past) v) (sym kept)
+    (kept-same p.declarations p.history.past (entry_by c (send_of w to) ∷ p.history.past) p.kept (λ x. refl) s.kept)))
 
-    elsewhere : (r : ℕ) → q.0 ≢ r → list_at queues' r ≡ list_at queues r
-    elsewhere r other = list-other queues queues' q.0 r (list_at queues q.0 ++ index_of h ∷ []) (λ (e : r ≡ q.0). other (sym e)) lists
-
-    by_queue : ((at : Place) (j i : ℕ) → can_shift at ≡ true → IsParked k past at j i → IsParked k (entry_by c (send_of h q) ∷ past) at j i)
-        → IsWaiting k (entry_by c (send_of h q) ∷ past) q.0 (sent_item h o.minting.0) (index_of h) → (r d : ℕ) → r < length k.queues
-        → Pairs (IsWaiting k (entry_by c (send_of h q) ∷ past) r) (waiting k past r d) (list_at queues r)
-        → (((q.0 == r) ≡ true) × (q.0 ≡ r)) ⊎ (((q.0 == r) ≡ false) × (q.0 ≢ r))
-        → Pairs (IsWaiting k (entry_by c (send_of h q) ∷ past) r) (waiting k (entry_by c (send_of h q) ∷ past) r d) (list_at queues' r)
-    by_queue stays parked r d lt before (inl t) =
-        subst (λ (r : ℕ). Pairs (IsWaiting k (entry_by c (send_of h q) ∷ past) r) (waiting k past r d) (list_at queues r)
-        → Pairs (IsWaiting k (entry_by c (send_of h q) ∷ past) r) (waiting k (entry_by c (send_of h q) ∷ past) r d) (list_at queues' r)) t.1
-        (λ before. subst (λ xs. Pairs (IsWaiting k (entry_by c (send_of h q) ∷ past) q.0) xs (list_at queues' q.0))
-        (sym (waiting-sent k past q d c h o.minting.0 simple o.minting.1 (s.gone_within q.0 d)))
-        (subst (λ is. Pairs (IsWaiting k (entry_by c (send_of h q) ∷ past) q.0) (waiting k past q.0 d ++ sent_item h o.minting.0 ∷ []) is) (sym here)
-        (pairs-add _ (waiting k past q.0 d) (list_at queues q.0) (sent_item h o.minting.0) (index_of h) before parked))) before
-    by_queue stays parked r d lt before (inr t) =
-        subst (λ xs. Pairs (IsWaiting k (entry_by c (send_of h q) ∷ past) r) xs (list_at queues' r))
-        (sym (waiting-elsewhere k past q r d c h o.minting.0 simple o.minting.1 t.1))
-        (subst (λ is. Pairs (IsWaiting k (entry_by c (send_of h q) ∷ past) r) (waiting k past r d) is) (sym (elsewhere r t.1)) before)
-
-    once_at : (r : ℕ) → (((q.0 == r) ≡ true) × (q.0 ≡ r)) ⊎ (((q.0 == r) ≡ false) × (q.0 ≢ r)) → NoneTwice (list_at queues' r)
-    once_at r (inl t) =
-        let apart = not-in (IsWaiting k past q.0) (waiting k past q.0 0) (list_at queues q.0) (index_of h)
-        (λ x j. waits-apart k past c h q.0 x j o) (s.waits q.0 0 declared) in
-        subst (λ (r : ℕ). NoneTwice (list_at queues' r)) t.1
-        (subst NoneTwice (sym here) (once-more (list_at queues q.0) (index_of h) (s.waiting_once q.0) apart))
-    once_at r (inr t) = subst NoneTwice (sym (elsewhere r t.1)) (s.waiting_once r)
-
--- a send is refused by the rule of its word alone
-pub send-refusal : (k : Declarations) (past : Past) (c h : ℕ) (q : QueueId) → IsSimple k → ArePlain past
-    → refusal k past c (Ask.Send h q None) ≡ log.rule past c h
-send-refusal k past c h q simple plain =
-    let e = never-closed k past q.0 simple plain in rw e (or-none (log.rule past c h))
-  where
-    or-none : (o : Option Fault) → option_or o None ≡ o
-    or-none None = refl
-    or-none (Some f) = refl
-
--- it is under no ticket
-pub send-own : (k : Declarations) (past : Past) (c h : ℕ) (q : QueueId) → ArePlain past → send_of h q ≡ own k past c (Ask.Send h q None)
-send-own k past c h q plain =
-    let none = no-ticket past c plain in
-    ap (λ (t : Option Ticket). What.Send (record { 0 = h }) q (option_map (λ (t : Ticket). t.number) t) None) (sym none)
-
-pub send-alone : (k : Declarations) (past : Past) (c h : ℕ) (q : QueueId) → IsSimple k → tail k past (entry_by c (send_of h q)) ≡ []
-send-alone k past c h q simple = let e = not-output k q.0 simple in rw e refl
-
-queue-named : (k : Declarations) (q : ℕ) → IsTrue (nat_lt q (length k.queues) && true) → q < length k.queues
-queue-named k q h = ltb-true q (length k.queues) (by_test (nat_lt q (length k.queues)) h)
-  where
-    by_test : (b : Bool) → IsTrue (b && true) → b ≡ true
-    by_test true h = refl
-    by_test false h = absurd cc
-
--- the queue of a send has room for its event
-pub send-room : (k : Declarations) (l : Limits) (past : Past) (p : PoolState) (opens : List Opening) (queues objects : LinesState) (n c h : ℕ) (q : QueueId)
-    → Keeps k l past p opens queues objects n → IsTrue (may_ask k past c (Ask.Send h q None)) → log.rule past c h ≡ None
-    → length (list_at queues q.0) < queues.room
-send-room k l past p opens queues objects n c h q s may ok =
-    let parts = parts-of k l past p opens queues objects n s in
-    queue-room k past p queues objects c h q.0 parts (owned k l past p queues objects c h parts s.lawful.each s.plain ok)
-    (queue-named k q.0 (may-declared k past c (Ask.Send h q None) may))
-
-pub send-keeps : (k : Declarations) (l : Limits) (past : Past) (p p' : PoolState) (opens : List Opening) (queues objects queues' : LinesState) (n c h : ℕ) (q : QueueId)
-    → Keeps k l past p opens queues objects n → c < k.cores → IsTrue (may_ask k past c (Ask.Send h q None)) → log.rule past c h ≡ None → 2 ≤ left k past c
-    → pools.Stands p' (Spent c h (Spend.Sent q) (length past) ∷ pool_steps k past) → p'.pools ≡ p.pools → p'.spare ≡ p.spare
-    → queues'.lists ≡ slice_set queues.lists q.0 (list_at queues q.0 ++ index_of h ∷ []) → length queues'.lists ≡ length queues.lists → queues'.room ≡ queues.room
-    → Kept k l (entry_by c (send_of h q) ∷ past) p' opens queues' objects n (spares k past 0 opens)
-send-keeps k l past p p' opens queues objects queues' n c h q s core may ok enough stands same spare lists len room =
-    let begun = may-open k past c (Ask.Send h q None) may in
-    let parts = parts-of k l past p opens queues objects n s in
-    let declared = queue-named k q.0 (may-declared k past c (Ask.Send h q None) may) in
-    let gives : send_of h q ≡ lead k past c (Ask.Send h q None) =
-    send-own k past c h q s.plain ∙ own-lead k past c (Ask.Send h q None) (send-refusal k past c h q s.simple s.plain ∙ ok) in
-    keeps-next k l past p p' opens queues objects queues' objects n c (send_of h q) begun.0 s (mild-send h q) core begun.1
-    (Asks (Ask.Send h q None) may gives) (send-alone k past c h q s.simple) (omega arith) enough (omega arith)
-    (parts-send k past p p' queues objects queues' c h q s.simple parts (owned k l past p queues objects c h parts s.lawful.each s.plain ok) declared stands same lists len room)
+-- the queue is declared
+pub queue-declared : (p : Parts) (c w : ℕ) (q : QueueId) → MayAsk p.declarations p.history.past c (Ask.Send w q None) → q.0 < length p.declarations.queues
+queue-declared p c w q may =
+    let a : Ask = Ask.Send w q None in
+    let asked =
+    first-and (is_some (context p.history.past c) && is_ask p.declarations a)
+    (is_placed (context p.history.past c) (holds p.declarations p.history.past c) a)
+    may.may
+    in
+    let fits = last-and (is_some (context p.history.past c)) (is_ask p.declarations a) asked in
+    let named = first-and (is_declared p.declarations a) (is_typed a) fits in
+    ltb-true q.0 (length p.declarations.queues) (first-and (is_queue p.declarations q.0) true named)

@@ -1,8 +1,12 @@
-pub mod Simple
-pub mod Plain
+pub mod Graphs
+pub mod Served
 pub mod State
-pub mod Parts
-pub mod Lines
 pub mod Openings
+pub mod Lines
+pub mod Histories
+pub mod Room
+pub mod Acts
+pub mod Standing
+pub mod Choices
+pub mod Answers
 pub mod Starts
-pub mod Stands

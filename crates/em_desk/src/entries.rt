@@ -1,32 +1,10 @@
-//! Entries and replies, and room for them.
-ghost use Rattle.std.specs.Prelude.{◌≡◌, ◌+◌, ◌≤◌, [], false, None, OnOk};
-ghost use Rattle.std.specs.Vec.{vec_capacity, vec_len};
-ghost use Rattle.em_log.specs.History.{entry_by};
+//! Replies to a take.
+ghost use Rattle.std.specs.Prelude.{◌≡◌, [], false, None};
 ghost use Rattle.em_log.specs.declared.ask.Answer.{Answer as TheAnswer};
+ghost use Rattle.em_desk.specs.Answers.{rest_of};
 ghost use Rattle.em_log.specs.declared.ask.Context.{Context as TheContext};
 
-use em_log::{
-    Answer, Context, CoreId, Entry, EoId, Event, NoMemory, QueueId, Receive, Reply, Rest, What,
-};
-
-/// Makes room for `more` items.
-pub fn make_room<T>(items: &mut Vec<T>, more: usize) -> Result<(), NoMemory>
-    ensures items { items.new.items ≡ items.old.items }
-    ensures room { OnOk result (vec_len items.new + more ≤ vec_capacity items.new) }
-    ensures capacity { vec_capacity items.old ≤ vec_capacity items.new }
-{
-    match items.reserve(more) {
-        Ok(()) => Ok(()),
-        Err(_) => Err(NoMemory),
-    }
-}
-
-/// An entry of this core.
-pub fn entry(core: CoreId, what: What) -> Entry
-    ensures { result ≡ entry_by core.0 what }
-{
-    Entry { core, what }
-}
+use em_log::{Answer, Context, EndKind, EoId, Event, QueueId, Receive, Reply, Rest};
 
 /// A reply after which no step is owed.
 pub fn told(answer: Answer) -> Reply
@@ -35,6 +13,17 @@ pub fn told(answer: Answer) -> Reply
     Reply {
         answer,
         owed: false,
+    }
+}
+
+/// The answer where nothing is taken: how the history has ended, if it has, else that there is nothing to do for now.
+pub fn rest(ended: Option<EndKind>) -> Answer
+    ensures { result ≡ rest_of ended }
+{
+    match ended {
+        Some(EndKind::Quiet) => Answer::Quiet,
+        Some(EndKind::Limit) => Answer::Limit,
+        None => Answer::Idle,
     }
 }
 

@@ -1,11 +1,19 @@
 //! The desk: the one value that a run's history grows in, by whole asks.
 #![tactic(auto)]
 
+mod acts;
+mod asks;
+mod choices;
 pub mod desk;
 mod entries;
+mod history;
+mod laws;
 mod lines;
 mod opening;
+mod outcome;
+mod parts;
 mod shapes;
-mod starting;
+mod takes;
 
 pub use desk::Desk;
+pub use laws::well_formed_is_in_bounds;

@@ -1,5 +1,5 @@
 //! Lists of events, by their indices, the first of which are taken off.
-ghost use Rattle.std.specs.Prelude.{◌≡◌, ◌<◌, ◌≤◌, ◌∷◌, ◌++◌, [], ℕ, List, length, drop, replicate, slice_set, slice_index_or, IfOk, MatchOption};
+ghost use Rattle.std.specs.Prelude.{◌≡◌, ◌<◌, ◌≤◌, ◌∷◌, ◌++◌, [], length, drop, replicate, slice_set, IfOk, MatchOption};
 ghost use Rattle.std.specs.VecDeque.{deque_capacity};
 ghost use Rattle.em_desk.specs.Lines.{list_at};
 
@@ -69,19 +69,5 @@ impl Lines {
         ensures room { self.new.room ≡ self.old.room }
     {
         self.lists[usize::from(list)].pop_front()
-    }
-
-    /// The least list that is not empty.
-    pub fn filled(&self) -> Option<u16>
-        ensures { MatchOption result ((i : ℕ) → list_at self.now i ≡ []) (λ i. (i < length self.now.lists) × ((0 < length (list_at self.now i)) × ((j : ℕ) → j < i → list_at self.now j ≡ []))) }
-    {
-        let mut at: u16 = 0;
-        for list in &self.lists {
-            if !list.is_empty() {
-                return Some(at);
-            }
-            at += 1;
-        }
-        None
     }
 }

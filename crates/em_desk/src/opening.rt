@@ -1,19 +1,18 @@
 //! What the desk keeps of each core's open context.
-ghost use Rattle.std.specs.Prelude.{◌≡◌, replicate, if◌then◌else◌, IfOk};
+ghost use Rattle.std.specs.Prelude.{◌≡◌, replicate, IfOk};
 ghost use Rattle.std.specs.List.{list_all};
 ghost use Rattle.em_desk.specs.Openings.{opening_at, is_closed, is_boot, object_in as object_of_opening, receiver_in};
 ghost use Rattle.em_desk.specs.declared.opening.Opening.{Opening as TheOpening};
-ghost use Rattle.em_log.specs.declared.ask.Answer.{Answer as TheAnswer};
 
-use em_log::{Answer, CoreId, EoId, NoMemory};
+use em_log::{CoreId, EoId, NoMemory};
 use std::alloc::Global;
 
-/// No context, boot, or a receive of this object.
+/// No context, boot, or another body, of an object.
 #[derive(Clone, Copy, Debug, PartialEq, Eq)]
 pub enum Opening {
     Closed,
     Boot,
-    Receive(EoId),
+    Body(Option<EoId>),
 }
 
 /// No open context on any of these cores.
@@ -48,33 +47,22 @@ pub fn are_closed(contexts: &[Opening]) -> bool
         .all(|context| matches!(context, Opening::Closed))
 }
 
-/// The answer where no context is open, else that there is nothing to do for now.
-pub fn rest(contexts: &[Opening], ended: Answer) -> Answer
-    ensures { result ≡ (if list_all is_closed contexts.now then ended else TheAnswer.Idle) }
-{
-    if are_closed(contexts) {
-        ended
-    } else {
-        Answer::Idle
-    }
-}
-
-/// The object whose receive is the core's open context.
+/// The object whose body is the core's open context, if it has one.
 pub fn object_in(contexts: &[Opening], core: CoreId) -> Option<EoId>
     ensures { result ≡ object_of_opening (opening_at contexts.now core.0) }
 {
     match contexts.get(usize::from(core.0)) {
-        Some(Opening::Receive(object)) => Some(*object),
+        Some(Opening::Body(object)) => *object,
         _ => None,
     }
 }
 
-/// The object whose receive is the core's open context; where none is, object 0.
+/// The object whose body is the core's open context; where it has none, object 0.
 pub fn receiver(contexts: &[Opening], core: CoreId) -> EoId
     ensures { result ≡ receiver_in (opening_at contexts.now core.0) }
 {
-    match contexts.get(usize::from(core.0)) {
-        Some(Opening::Receive(object)) => *object,
-        _ => EoId(0),
+    match object_in(contexts, core) {
+        Some(object) => object,
+        None => EoId(0),
     }
 }

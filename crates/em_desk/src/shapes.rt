@@ -1,10 +1,10 @@
 //! What the desk reads of a graph's declarations, and of a handle.
-ghost use Rattle.std.specs.Prelude.{◌≡◌, ◌<◌, ◌≤◌, length};
-ghost use Rattle.em_log.specs.Declarations.{event_total, object_of as object_of_queue};
+ghost use Rattle.std.specs.Prelude.{◌≡◌, ◌≤◌};
+ghost use Rattle.em_log.specs.Declarations.{event_total, kind_of, is_output as is_output_kind, object_of as object_of_queue};
 ghost use Rattle.em_log.specs.History.{index_of as index_of_handle};
 ghost use Rattle.em_log.specs.Answers.{object_id};
 
-use em_log::{Declarations, EoId, QueueId};
+use em_log::{Declarations, EoId, Kind, QueueId};
 
 /// How many events the pools have.
 pub fn event_count(declarations: &Declarations) -> u16
@@ -25,6 +25,16 @@ pub fn object_of(declarations: &Declarations, queue: QueueId) -> EoId
     match declarations.queues.as_slice().get(usize::from(queue.0)) {
         Some(shape) => shape.eo.unwrap_or_default(),
         None => EoId(0),
+    }
+}
+
+/// Whether the queue is an output.
+pub fn is_output(declarations: &Declarations, queue: QueueId) -> bool
+    ensures { result ≡ is_output_kind (kind_of declarations.now queue.0) }
+{
+    match declarations.queues.as_slice().get(usize::from(queue.0)) {
+        Some(shape) => matches!(shape.kind, Kind::Output),
+        None => false,
     }
 }
 

@@ -24,7 +24,8 @@ use Rattle.em_log.specs.Leads.{lead}
 use Rattle.em_log.specs.Lawful.{may_ask}
 use Rattle.em_log.specs.Allowance.{cost_of_ask, left}
 use Rattle.em_log.specs.Answers.{Takes, Halted, Boots, Early, Enters, Acks, Receives, Rests, block, has_choice, is_first}
-use Rattle.em_desk.specs.State.{DeskState, IsServed}
+use Rattle.em_desk.specs.State.{DeskState}
+use Rattle.em_desk.specs.Served.{served}
 use Rattle.em_desk_rows.specs.declared.moves.Move.{Move}
 use Rattle.em_desk_rows.specs.Moves.{MayTake, MayAsk, Moves, Drives, ask_of, with_past}
 
@@ -113,6 +114,7 @@ may_take d c =
 abbrev pub may_do : DeskState → ℕ → Ask → Bool
 may_do d c ask =
     nat_lt c d.declarations.cores && may_ask d.declarations d.past c ask && nat_le (cost_of_ask ask) (left d.declarations d.past c)
+    && served d.declarations ask
 
 abbrev pub may_move : DeskState → ℕ → Option Ask → Bool
 may_move d c None = may_take d c
@@ -126,20 +128,6 @@ moved d c (Some ask) = block d.declarations d.past (entry_by c (lead d.declarati
 abbrev pub passes : DeskState → List (ℕ × Move) → Bool
 passes d [] = true
 passes d (m ∷ ms) = may_move d m.0 (ask_of m.1) && passes (with_past d (moved d m.0 (ask_of m.1))) ms
-
-abbrev pub IsServedIn : Option Ask → Type 0
-IsServedIn None = Unit {0}
-IsServedIn (Some ask) = IsServed ask
-
-served : (m : Move) → IsServedIn (ask_of m)
-served Move.Take = tt
-served (Move.Alloc kind) = tt
-served (Move.Free w) = tt
-served (Move.Send w) = tt
-served (Move.Keep w) = tt
-served Move.Claim = tt
-served (Move.Say v) = tt
-served Move.End = tt
 
 none-is : {A : Type 0} (o : Option A) → is_none o ≡ true → o ≡ None
 none-is None is = refl
@@ -163,36 +151,42 @@ may-take d c is =
       none-is (step d.declarations d.past c) a.1,
     )
 
-may-do : (d : DeskState) (c : ℕ) (ask : Ask) → may_do d c ask ≡ true → IsServed ask → MayAsk d c ask
-may-do d c ask is can =
+may-do : (d : DeskState) (c : ℕ) (ask : Ask) → may_do d c ask ≡ true → MayAsk d c ask
+may-do d c ask is =
     let a =
+    both-true
+    (nat_lt c d.declarations.cores && may_ask d.declarations d.past c ask && nat_le (cost_of_ask ask) (left d.declarations d.past c))
+    (served d.declarations ask)
+    is
+    in
+    let b =
     both-true
     (nat_lt c d.declarations.cores && may_ask d.declarations d.past c ask)
     (nat_le (cost_of_ask ask) (left d.declarations d.past c))
-    is
+    a.0
     in
-    let b = both-true (nat_lt c d.declarations.cores) (may_ask d.declarations d.past c ask) a.0 in
+    let e = both-true (nat_lt c d.declarations.cores) (may_ask d.declarations d.past c ask) b.0 in
     record {
-      core = ltb-true c d.declarations.cores b.0;
-      may_ask = b.1;
-      allowance = leb-true (cost_of_ask ask) (left d.declarations d.past c) a.1;
-      served = can;
+      core = ltb-true c d.declarations.cores e.0;
+      may_ask = e.1;
+      allowance = leb-true (cost_of_ask ask) (left d.declarations d.past c) b.1;
+      served = a.1;
     }
 
 moves-by : (d : DeskState) (c : ℕ) (o : Option Ask) (more : DeskState → Type 0) → length d.declarations.queues ≤ 1
-    → may_move d c o ≡ true → IsServedIn o → more (with_past d (moved d c o)) → Moves d c o more
-moves-by d c None more few is can more_then =
+    → may_move d c o ≡ true → more (with_past d (moved d c o)) → Moves d c o more
+moves-by d c None more few is more_then =
     let may = may-take d c is in (
       may.0,
       λ (answer : Answer) (now : Past) (takes : Takes d.declarations d.limits d.halted d.past c answer now).
           subst (λ past. more (with_past d past)) (sym (take-is d.declarations d.limits d.halted d.past c answer now few may.1 takes)) more_then,
     )
-moves-by d c (Some ask) more few is can more_then = (may-do d c ask is can, more_then)
+moves-by d c (Some ask) more few is more_then = (may-do d c ask is, more_then)
 
 -- a decided run of moves drives
 pub drives-by : (d : DeskState) (ms : List (ℕ × Move)) → length d.declarations.queues ≤ 1 → passes d ms ≡ true → Drives d ms
 drives-by d [] few is = tt
 drives-by d (m ∷ ms) few is =
     let b = both-true (may_move d m.0 (ask_of m.1)) (passes (with_past d (moved d m.0 (ask_of m.1))) ms) is in
-    moves-by d m.0 (ask_of m.1) (λ now. Drives now ms) few b.0 (served m.1)
+    moves-by d m.0 (ask_of m.1) (λ now. Drives now ms) few b.0
     (drives-by (with_past d (moved d m.0 (ask_of m.1))) ms few b.1)

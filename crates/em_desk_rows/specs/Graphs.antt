@@ -1,9 +1,16 @@
 -- Graphs of one pool.
-use Rattle.std.specs.Prelude.{ℕ, Bool, true, List, [], ◌∷◌}
+use Rattle.std.specs.Prelude.{ℕ, Bool, true, List, [], ◌∷◌, Some, None}
 use Rattle.em_log.specs.declared.declarations.Declarations.{Declarations}
 use Rattle.em_log.specs.declared.declarations.PoolShape.{PoolShape}
 use Rattle.em_log.specs.declared.declarations.QueueShape.{QueueShape}
-use Rattle.em_desk.specs.Simple.{parallel_queue}
+use Rattle.em_log.specs.declared.graph.Priority.{Priority}
+use Rattle.em_log.specs.declared.ids.EoId.{EoId}
+use Rattle.em_log.specs.declared.ids.Kind.{Kind}
+
+-- a parallel queue of this object, of priority normal and of all cores
+abbrev pub parallel_queue : EoId → QueueShape
+parallel_queue x =
+    record { kind = Kind.Parallel; eo = Some x; priority = Some Priority.Normal; group = Some (record { 0 = 0 }); agroup = None }
 
 -- cores, one pool, and these objects and queues
 abbrev pub graph_of : ℕ → PoolShape → List Bool → List QueueShape → Declarations

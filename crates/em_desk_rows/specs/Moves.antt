@@ -10,7 +10,8 @@ use Rattle.em_log.specs.Leads.{lead}
 use Rattle.em_log.specs.Lawful.{may_ask}
 use Rattle.em_log.specs.Allowance.{cost_of_ask, left}
 use Rattle.em_log.specs.Answers.{Takes, block}
-use Rattle.em_desk.specs.State.{DeskState, IsServed}
+use Rattle.em_desk.specs.State.{DeskState}
+use Rattle.em_desk.specs.Served.{served}
 use Rattle.em_desk_rows.specs.declared.moves.Move.{Move}
 
 -- a run that has not begun, of at most n receives
@@ -41,7 +42,7 @@ pub record MayAsk (d : DeskState) (c : ℕ) (ask : Ask) : Type 0 where
   pub core : c < d.declarations.cores
   pub may_ask : IsTrue (may_ask d.declarations d.past c ask)
   pub allowance : cost_of_ask ask ≤ left d.declarations d.past c
-  pub served : IsServed ask
+  pub served : IsTrue (served d.declarations ask)
 
 -- the run with another history
 abbrev pub with_past : DeskState → Past → DeskState

@@ -1,7 +1,7 @@
 //! Moves of the cores, and the runs that they make.
 ghost use Rattle.std.specs.Prelude.{◌≡◌, ◌≤◌, OnOk, IfOk};
 ghost use Rattle.em_log.specs.Declarations.{declarations_of};
-ghost use Rattle.em_desk.specs.Simple.{IsSimple};
+ghost use Rattle.em_desk.specs.Graphs.{AreInBounds};
 ghost use Rattle.em_desk_rows.specs.Moves.{ask_of, fresh, Drives, Makes};
 
 use em_desk::Desk;
@@ -73,7 +73,7 @@ pub fn run(
     receives: u16,
     moves: &[(u8, Move)],
 ) -> Result<Desk, NoMemory>
-    requires simple { IsSimple (declarations_of config.now) }
+    requires graph { AreInBounds (declarations_of config.now) }
     requires some { 1 ≤ receives }
     requires most { receives ≤ 10000 }
     requires drives { Drives (fresh (declarations_of config.now) receives) moves.now }

@@ -1,23 +1,35 @@
-use Rattle.std.proofs.Common.{◌∙◌, ℕ, Bool, [], List, length, replicate, ap, sym, subst}
+use Rattle.std.proofs.Common.{◌≡◌, ◌∙◌, [], List, Bool, length, refl, ap, sym, subst}
+use Rattle.std.proofs.lemmas.List.{length-map}
 use Rattle.em_log.specs.declared.declarations.Declarations.{Declarations}
-use Rattle.em_log.specs.declared.declarations.QueueShape.{QueueShape}
+use Rattle.em_log.specs.declared.graph.Config.{Config}
+use Rattle.em_log.specs.Declarations.{declarations_of, event_total, queue_shape}
 use Rattle.em_pool.specs.State.{PoolState}
-use Rattle.em_desk.specs.Simple.{IsSimple}
-use Rattle.em_desk.proofs.Beginning.{beginning-keeps, beginning-stands}
+use Rattle.em_queues.specs.Stands as queues
+use Rattle.em_desk.specs.Graphs.{AreInBounds}
+use Rattle.em_desk.specs.Standing.{shape_of}
+use Rattle.em_desk.proofs.Built.{built, empty_lists}
 use Rattle.em_desk.proofs.desk.Desk.build.Goals as goal
 
-abbrev empty_lists : ℕ → List (List ℕ)
-empty_lists n = replicate n []
+-- the queues' shape is that of the declared graph
+shape-declared : (g : Config) → record { cores = g.cores; queues = length g.queues; events = event_total (declarations_of g).pools } ≡ shape_of (declarations_of g)
+shape-declared g =
+    let count = length-map g.queues queue_shape in
+    λ i. record { cores = g.cores; queues = sym count i; events = event_total (declarations_of g).pools }
 
 pub invariant_of-result : goal.invariant_of-result
 invariant_of-result c =
-    let k = c.in_ok-declarations.declarations in
     let is = c.in_ok-declarations.ensures in
-    beginning-stands _ c.new.ensures.items
-    (beginning-keeps k c.args.limits c.in_ok-pools.pools c.in_ok-contexts.contexts.items c.in_ok-waiting.waiting c.in_ok-kept.kept
-    (subst IsSimple (sym is) c.requires.simple) c.requires.limits c.in_ok-pools.ensures.stands
-    (ap (λ (p : PoolState). p.pools) c.in_ok-pools.ensures.value ∙ sym (ap (λ (k : Declarations). k.pools) is)) c.in_ok-contexts.ensures
-    (c.in_ok-waiting.ensures.lists ∙ ap (λ (qs : List QueueShape). empty_lists (length qs)) c.as_slice.ensures)
-    (c.in_ok-waiting.ensures.room ∙ c.event_count-events.ensures)
-    (c.in_ok-kept.ensures.lists ∙ ap (λ (rs : List Bool). empty_lists (length rs)) c.as_slice-2.ensures)
-    (c.in_ok-kept.ensures.room ∙ c.event_count-events.ensures))
+    built _
+    (record {
+      graph = subst AreInBounds (sym is) c.requires.graph;
+      limits = c.requires.limits;
+      cores = c.in_ok-allowed.ensures.count;
+      allowed = c.in_ok-allowed.ensures.allowed;
+    })
+    c.new.ensures c.in_ok-pools.ensures.stands
+    (ap (λ (p : PoolState). p.pools) c.in_ok-pools.ensures.value ∙ sym (ap (λ (k : Declarations). k.pools) is))
+    (subst (λ (k : Declarations). queues.Stands k c.in_ok-queues.queues []) (sym is) c.in_ok-queues.ensures.stands)
+    (c.in_ok-queues.ensures.shape ∙ (shape-declared c.args.config.now ∙ ap shape_of (sym is)))
+    (c.in_ok-kept.ensures.lists ∙ ap (λ (rs : List Bool). empty_lists (length rs)) c.as_slice.ensures)
+    (c.in_ok-kept.ensures.room ∙ c.event_count-events.ensures)
+    c.in_ok-contexts.ensures refl

@@ -1,0 +1,206 @@
+-- What every ask has in common, and those that spend nothing or free.
+use Rattle.std.proofs.Common.{◌≡◌, ℕ, ◌+◌, ◌≤◌, Bool, true, false, not, ◌&&◌, [], ◌∷◌, List, length, map, Option, Some, None, refl, ap, sym, ◌∙◌, subst, arith, IsTrue}
+use Rattle.std.specs.Option.{option_map}
+use Rattle.em_log.specs.declared.ask.Ask.{Ask}
+use Rattle.em_log.specs.declared.declarations.Declarations.{Declarations}
+use Rattle.em_log.specs.declared.entry.Body.{Body}
+use Rattle.em_log.specs.declared.entry.What.{What}
+use Rattle.em_log.specs.declared.fault.Call.{Call}
+use Rattle.em_log.specs.declared.fault.Fault.{Fault}
+use Rattle.em_log.specs.declared.ids.EoId.{EoId}
+use Rattle.em_log.specs.declared.ids.Handle.{Handle}
+use Rattle.em_log.specs.History.{Past, entry_by, entries_by, onto, index_of}
+use Rattle.em_log.specs.Atomic.{holds}
+use Rattle.em_log.specs.Contexts.{context, object_begun, is_boot}
+use Rattle.em_log.specs.Handles.{rule}
+use Rattle.em_log.specs.Places.{kept}
+use Rattle.em_log.specs.Leads.{refusal, own, lead, refused_or, call_of, scope}
+use Rattle.em_log.specs.Lawful.{is_placed}
+use Rattle.em_log.specs.Allowance.{cost_of_ask, cost_of_lead}
+use Rattle.em_log.specs.Answers.{block}
+use Rattle.em_moments.proofs.Asked.{asks-open}
+use Rattle.em_bounds.specs.Paid.{pays}
+use Rattle.em_pool.specs.declared.place.Spend.{Spend}
+use Rattle.em_pool.specs.Steps.{PoolStep, Spent}
+use Rattle.em_pool.specs.Handles as pool
+use Rattle.em_pool.specs.Stands as pools
+use Rattle.em_parts.specs.PoolSteps.{pool_steps, direct}
+use Rattle.em_parts.proofs.Spendings.{same-rule}
+use Rattle.em_desk.specs.declared.acts.Act.{Act}
+use Rattle.em_desk.specs.declared.outcome.Outcome.{Outcome}
+use Rattle.em_desk.specs.declared.parts.Parts.{Parts}
+use Rattle.em_desk.specs.Acts.{said}
+use Rattle.em_desk.specs.Lines.{LinesState}
+use Rattle.em_desk.specs.Openings.{opening_at, opening_by, object_in}
+use Rattle.em_desk.specs.Served.{is_served_entry}
+use Rattle.em_desk.specs.Standing.{Stands, AreKept}
+use Rattle.em_desk.specs.State.{MayAsk, Adds, outcome_of}
+use Rattle.em_desk.proofs.Begun.{pushed, IsCause, IsAsked, asked-begun, at-rest, settled-pools, block-none, block-acts}
+
+abbrev pub steps_of : Parts → List PoolStep
+steps_of p = pool_steps p.declarations p.history.past
+
+abbrev as_object : ℕ → EoId
+as_object x = record { 0 = x }
+
+-- leads
+
+pub own-lead : (k : Declarations) (past : Past) (c : ℕ) (a : Ask) → refusal k past c a ≡ None → own k past c a ≡ lead k past c a
+own-lead k past c a accepted = sym (ap (λ (r : Option Fault). refused_or k past c (call_of a) r (own k past c a)) accepted)
+
+pub fault-lead : (k : Declarations) (past : Past) (c : ℕ) (a : Ask) (f : Fault) → refusal k past c a ≡ Some f
+    → What.Fault (call_of a) f (scope k past c) ≡ lead k past c a
+fault-lead k past c a f refused = sym (ap (λ (r : Option Fault). refused_or k past c (call_of a) r (own k past c a)) refused)
+
+-- an ask that leaves nothing to do
+
+pub settled : (p q : Parts) (c : ℕ) (a : Ask) (w : What) → Stands p → IsAsked p c a w → IsTrue (is_served_entry p.declarations w)
+    → IsCause p.declarations p.history.past c w [] → pools.Stands q.pools (direct p.declarations p.history.past c w (steps_of p)) → q.pools.pools ≡ p.pools.pools
+    → p.pools.spare ≤ q.pools.spare + cost_of_lead w → AreKept p.declarations (entry_by c w ∷ p.history.past) q.kept
+    → Stands (record p { history = pushed p c w; pools = q.pools; kept = q.kept })
+settled p q c a w s e served cause stands shapes spare kept =
+    at-rest (record p { history = pushed p c w; pools = q.pools; kept = q.kept }) c (asked-begun p q c a w [] s e served cause tt stands shapes spare tt kept)
+
+pub adds-none : (p q : Parts) (c : ℕ) (a : Ask) (w : What) (o : Outcome) → q.history.past ≡ entry_by c w ∷ p.history.past
+    → IsCause p.declarations p.history.past c w [] → w ≡ lead p.declarations p.history.past c a → o ≡ outcome_of w
+    → q.declarations ≡ p.declarations → q.limits ≡ p.limits → Adds p q c (lead p.declarations p.history.past c a) o
+adds-none p q c a w o is cause gives told declarations limits =
+    record {
+      past = is ∙ (block-none p.declarations p.history.past c w cause ∙ ap (λ (w : What). block p.declarations p.history.past (entry_by c w)) gives);
+      told = told ∙ ap outcome_of gives;
+      declarations = declarations;
+      limits = limits;
+    }
+
+pub adds-acts : (p q : Parts) (c : ℕ) (a : Ask) (w : What) (acts : List Act) (o : Outcome) → q.history.past ≡ onto (entries_by c (said acts)) (entry_by c w ∷ p.history.past)
+    → IsCause p.declarations p.history.past c w acts → w ≡ lead p.declarations p.history.past c a → o ≡ outcome_of w
+    → q.declarations ≡ p.declarations → q.limits ≡ p.limits → Adds p q c (lead p.declarations p.history.past c a) o
+adds-acts p q c a w acts o is cause gives told declarations limits =
+    record {
+      past = is ∙ (block-acts p.declarations p.history.past c w acts cause ∙ ap (λ (w : What). block p.declarations p.history.past (entry_by c w)) gives);
+      told = told ∙ ap outcome_of gives;
+      declarations = declarations;
+      limits = limits;
+    }
+
+-- an entry that neither keeps nor claims
+pub kept-same : (k : Declarations) (past now : Past) (v : LinesState) → ((x : ℕ) → kept k now x ≡ kept k past x) → AreKept k past v → AreKept k now v
+kept-same k past now v same s =
+    record {
+      count = s.count;
+      room = s.room;
+      lists = λ x lt. s.lists x lt ∙ ap (map index_of) (sym (same x));
+      once = s.once;
+      below = s.below;
+    }
+
+-- an ask that does not mint or spend
+pub silent-cause : (k : Declarations) (past : Past) (c : ℕ) (v : ℕ) → IsCause k past c (What.Say v) []
+silent-cause k past c v = record { pools = λ s. refl; queues = λ t. refl; tail = refl }
+
+-- a refusal
+
+fault-pays : (asked : Call) (f : Fault) (x : Option EoId) → pays (What.Fault asked f x) ≤ 1
+fault-pays Call.Note f x = omega arith
+fault-pays _ f x = omega arith
+
+pub fault-cause : (k : Declarations) (past : Past) (c : ℕ) (asked : Call) (f : Fault) (x : Option EoId) → IsCause k past c (What.Fault asked f x) []
+fault-cause k past c asked f x = record { pools = λ s. refl; queues = λ t. refl; tail = refl }
+
+-- the scope that the desk keeps is that of the history
+scope-by : (o : Option What) (b : What) (x : Option EoId) → o ≡ Some b → ((b ≡ What.Enter Body.Boot) → x ≡ None) → object_in (opening_by o x) ≡ x
+scope-by o (What.Enter Body.Boot) x is boot = ap (λ (o : Option What). object_in (opening_by o x)) is ∙ sym (boot refl)
+scope-by o (What.Enter (Body.GlobalStart op)) x is boot = ap (λ (o : Option What). object_in (opening_by o x)) is
+scope-by o (What.Enter (Body.LocalStart op)) x is boot = ap (λ (o : Option What). object_in (opening_by o x)) is
+scope-by o (What.Enter (Body.LocalStop op)) x is boot = ap (λ (o : Option What). object_in (opening_by o x)) is
+scope-by o (What.Enter (Body.GlobalStop op)) x is boot = ap (λ (o : Option What). object_in (opening_by o x)) is
+scope-by o b x is boot = ap (λ (o : Option What). object_in (opening_by o x)) is
+
+pub scope-is : (p : Parts) (c : ℕ) (a : Ask) → Stands p → MayAsk p.declarations p.history.past c a
+    → object_in (opening_at p.contexts.items c) ≡ scope p.declarations p.history.past c
+scope-is p c a s may =
+    let o = asks-open p.declarations p.history.past c a may.may in
+    ap object_in (s.contexts c may.core)
+    ∙ scope-by (context p.history.past c) o.0 (scope p.declarations p.history.past c) o.1
+    (λ (is : o.0 ≡ What.Enter Body.Boot). ap (λ (b : Option What). option_map as_object (object_begun p.declarations p.history.past b)) (o.1 ∙ ap Some is))
+
+pub refused-asked : (p : Parts) (c : ℕ) (a : Ask) (asked : Call) (f : Fault) (x : Option EoId) → MayAsk p.declarations p.history.past c a → 1 ≤ cost_of_ask a
+    → refusal p.declarations p.history.past c a ≡ Some f → call_of a ≡ asked → x ≡ scope p.declarations p.history.past c → IsAsked p c a (What.Fault asked f x)
+refused-asked p c a asked f x may costs refused call is =
+    record {
+      core = may.core;
+      may = may.may;
+      gives = (λ i. What.Fault (sym call i) f (is i)) ∙ fault-lead p.declarations p.history.past c a f refused;
+      enough = let e = may.enough in omega (arith, e, costs);
+      mild = record {
+        context = λ o. refl;
+        leads = λ k past b ls. refl;
+        begun = λ n c o. refl;
+        started = λ n. refl;
+        pays = fault-pays asked f x;
+        served = λ c t. refl;
+      };
+    }
+
+-- words
+
+-- what the pools say of a word is what the history says
+pub rule-is : (p : Parts) (c w : ℕ) (o : Option Fault) → Stands p → ((s : List PoolStep) → pools.Stands p.pools s → pool.rule s c w ≡ o) → rule p.history.past c w ≡ o
+rule-is p c w o s answer = sym (same-rule p.declarations p.limits p.history.past c w s.all) ∙ answer (steps_of p) (settled-pools p 0 s)
+
+-- a spending leaves the pools in the place that the history has
+pub spent-at : (p q : Parts) (c w place : ℕ) (how : Spend) → Stands p → ((s : List PoolStep) → pools.Stands p.pools s → pools.Stands q.pools (Spent c w how place ∷ s))
+    → place ≡ length p.history.past → pools.Stands q.pools (Spent c w how (length p.history.past) ∷ steps_of p)
+spent-at p q c w place how s stands at =
+    subst (λ (n : ℕ). pools.Stands q.pools (Spent c w how n ∷ steps_of p)) at (stands (steps_of p) (settled-pools p 0 s))
+
+-- a free
+
+pub free-asked : (p : Parts) (c w : ℕ) → MayAsk p.declarations p.history.past c (Ask.Free w) → rule p.history.past c w ≡ None
+    → IsAsked p c (Ask.Free w) (What.Free (record { 0 = w }))
+free-asked p c w may ok =
+    record {
+      core = may.core;
+      may = may.may;
+      gives = own-lead p.declarations p.history.past c (Ask.Free w) ok;
+      enough = may.enough;
+      mild = record {
+        context = λ o. refl;
+        leads = λ k past b ls. refl;
+        begun = λ n c o. refl;
+        started = λ n. refl;
+        pays = omega arith;
+        served = λ c t. refl;
+      };
+    }
+
+pub free-cause : (k : Declarations) (past : Past) (c : ℕ) (h : Handle) → IsCause k past c (What.Free h) []
+free-cause k past c h = record { pools = λ s. refl; queues = λ t. refl; tail = refl }
+
+-- a said value
+
+pub say-asked : (p : Parts) (c v : ℕ) → MayAsk p.declarations p.history.past c (Ask.Say v) → IsAsked p c (Ask.Say v) (What.Say v)
+say-asked p c v may =
+    record {
+      core = may.core;
+      may = may.may;
+      gives = refl;
+      enough = may.enough;
+      mild = record {
+        context = λ o. refl;
+        leads = λ k past b ls. refl;
+        begun = λ n c o. refl;
+        started = λ n. refl;
+        pays = omega arith;
+        served = λ c t. refl;
+      };
+    }
+
+-- an ask that only an object's body may make stands outside boot
+last-and : (a b : Bool) → IsTrue (a && b) → IsTrue b
+last-and true b h = h
+last-and false b h = absurd cc
+
+pub asked-outside : (p : Parts) (c : ℕ) (a : Ask) → MayAsk p.declarations p.history.past c a
+    → is_placed (context p.history.past c) (holds p.declarations p.history.past c) a ≡ not (is_boot (context p.history.past c)) → not (is_boot (context p.history.past c)) ≡ true
+asked-outside p c a may is = sym is ∙ last-and _ (is_placed (context p.history.past c) (holds p.declarations p.history.past c) a) may.may

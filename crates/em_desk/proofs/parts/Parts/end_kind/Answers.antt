@@ -1,0 +1,111 @@
+use Rattle.std.proofs.Common.{◌≡◌, ◌≢◌, ◌∙◌, ℕ, ◌<◌, ◌==◌, Bool, [], List, length, true, false, get_or, ap, sym, subst, arith, refl}
+use Rattle.std.specs.List.{list_all}
+use Rattle.em_log.specs.Contexts.{boot_ended}
+use Rattle.em_log.specs.Eligible.{is_idle, is_wanted}
+use Rattle.em_log.specs.Places.{started}
+use Rattle.em_parts.specs.QueueSteps.{queue_steps}
+use Rattle.em_queues.specs.declared.set.QueueSet.{QueueSet}
+use Rattle.em_laws.proofs.Cores.{Compared, Same, Other, compared}
+use Rattle.em_desk.specs.declared.opening.Opening.{Opening}
+use Rattle.em_desk.specs.declared.parts.Parts.{Parts}
+use Rattle.em_desk.specs.Choices.{IsAnyReady}
+use Rattle.em_desk.specs.Openings.{opening_at, is_boot, is_closed}
+use Rattle.em_desk.specs.Standing.{Stands}
+use Rattle.em_desk.proofs.Begun.{settled-queues}
+use Rattle.em_desk.proofs.Ended.{boot-over, idle-is, open-at, busy-is, free-at, wanted-is, unwanted-is, end-busy, end-quiet, end-limit, end-none}
+use Rattle.em_desk.proofs.Mapped.{none-long}
+use Rattle.em_desk.proofs.Numbers.{all-at}
+use Rattle.em_desk.proofs.Ready.{serve-ready, ready-runs, declared-queue}
+use Rattle.em_desk.proofs.parts.Parts.end_kind.Goals as goal
+use Rattle.em_desk.proofs.parts.Parts.end_kind.Goals.{then-is_empty-via-then-is_empty, then-is_empty-via-else-is_empty+then-not-are_closed}
+
+all-closed : (items os : List Opening) (r b : Bool) → os ≡ items → r ≡ list_all is_closed os → r ≡ b → list_all is_closed items ≡ b
+all-closed items os r b is test told = sym (ap (list_all is_closed) is) ∙ (sym test ∙ told)
+
+-- with no context open, and some entry, the run is past boot
+record Over (p : Parts) : Type 0 where
+  over : boot_ended p.history.past ≡ true
+  idle : is_idle p.declarations p.history.past ≡ true
+
+closed-boot : (o : Opening) → is_closed o ≡ true → is_boot o ≡ false
+closed-boot Opening.Closed h = refl
+closed-boot Opening.Boot h = absurd cc
+closed-boot (Opening.Body x) h = refl
+
+is-over : (p : Parts) → Stands p → (length p.history.past == 0) ≡ false → list_all is_closed p.contexts.items ≡ true → Over p
+is-over p s some all =
+    let cores = s.cores in
+    let least = s.fixed.graph.some_cores in
+    let off = closed-boot (opening_at p.contexts.items 0) (all-at is_closed p.contexts.items 0 Opening.Closed all (omega (arith, cores, least))) in
+    let over = boot-over p s off (λ (none : p.history.past ≡ []). absurd (let no : (0 == 0) ≡ false = subst (λ h. (length h == 0) ≡ false) none some in cc no)) in
+    record { over = over; idle = idle-is p s over all }
+
+-- some core could be served
+wanted : (p : Parts) (r : Bool) (sets : List QueueSet) → Stands p → Over p → list_all is_closed p.contexts.items ≡ true → IsAnyReady r p.queues sets → r ≡ true → sets ≡ p.allowed.items
+    → is_wanted p.declarations p.history.past ≡ true
+wanted p false sets s v all any told same = absurd (cc told)
+wanted p true sets s v all any told same =
+    let can = any p.declarations (queue_steps p.declarations p.history.past) (settled-queues p 0 s) in
+    let cores = s.fixed.cores in
+    let inside = can.within in
+    let there : can.core < length p.allowed.items = subst (λ (xs : List QueueSet). can.core < length xs) same inside in
+    let lt : can.core < p.declarations.cores = omega (arith, cores, there) in
+    let set : can.set ≡ get_or p.allowed.items can.core can.set = subst (λ (xs : List QueueSet). can.set ≡ get_or xs can.core can.set) same can.is in
+    let on = serve-ready p can.core can.queue can.set s (free-at p can.core s v.over all lt) (λ q. s.fixed.allowed can.core q can.set there set) can.ready in
+    let r = ready-runs p.declarations p.history.past can.core can.queue on in
+    wanted-is p can.core can.queue lt (declared-queue p.declarations p.history.past can.queue r) on
+
+unwanted : (p : Parts) (r : Bool) (sets : List QueueSet) → Stands p → IsAnyReady r p.queues sets → r ≡ false → sets ≡ p.allowed.items → is_wanted p.declarations p.history.past ≡ false
+unwanted p true sets s any told same = absurd (cc told)
+unwanted p false sets s any told same = unwanted-is p s (subst (λ (xs : List QueueSet). IsAnyReady false p.queues xs) same any)
+
+same-number : (a b : ℕ) → a ≡ b → (a == b) ≡ true
+same-number a b is = by_test (compared a b)
+  where
+    by_test : Compared a b → (a == b) ≡ true
+    by_test (Same t e) = t
+    by_test (Other f ne) = absurd (ne is)
+
+other-number : (a b : ℕ) → a ≢ b → (a == b) ≡ false
+other-number a b other = by_test (compared a b)
+  where
+    by_test : Compared a b → (a == b) ≡ false
+    by_test (Same t e) = absurd (other e)
+    by_test (Other f ne) = f
+
+pub returns-then-is_empty : goal.returns-then-is_empty
+returns-then-is_empty c =
+    let p = c.args.self.now in
+    elim c.then-is_empty.branch [
+      | then-is_empty-via-then-is_empty w ↦
+          let none = none-long p.history.past (length p.history.past) refl (sym c.is_empty.ensures ∙ w.if-is_empty.true) in
+          sym (end-busy p.declarations p.limits p.history.past (ap (is_idle p.declarations) none))
+      | then-is_empty-via-else-is_empty+then-not-are_closed w ↦
+          sym (end-busy p.declarations p.limits p.history.past
+          (busy-is p c.requires (open-at p c.requires (all-closed p.contexts.items w.as_slice.result.now w.are_closed.result false w.as_slice.ensures.value w.are_closed.ensures w.if-not-are_closed.true))))
+    ]
+
+pub returns-then-not-any_ready : goal.returns-then-not-any_ready
+returns-then-not-any_ready c =
+    let p = c.args.self.now in
+    let all = all-closed p.contexts.items c.as_slice.result.now c.are_closed.result true c.as_slice.ensures.value c.are_closed.ensures c.if-not-are_closed.false in
+    let v = is-over p c.requires (sym c.is_empty.ensures ∙ c.if-is_empty.false) all in
+    sym (end-quiet p.declarations p.limits p.history.past v.idle (unwanted p c.any_ready.result c.as_slice-2.result.now c.requires c.any_ready.ensures c.if-not-any_ready.true c.as_slice-2.ensures.value))
+
+pub returns-then-self : goal.returns-then-self
+returns-then-self c =
+    let p = c.args.self.now in
+    let all = all-closed p.contexts.items c.as_slice.result.now c.are_closed.result true c.as_slice.ensures.value c.are_closed.ensures c.if-not-are_closed.false in
+    let v = is-over p c.requires (sym c.is_empty.ensures ∙ c.if-is_empty.false) all in
+    sym (end-limit p.declarations p.limits p.history.past v.idle
+    (wanted p c.any_ready.result c.as_slice-2.result.now c.requires v all c.any_ready.ensures c.if-not-any_ready.false c.as_slice-2.ensures.value)
+    (same-number (started p.history.past) p.limits.receives (sym c.requires.started ∙ c.if-self.true)))
+
+pub returns : goal.returns
+returns c =
+    let p = c.args.self.now in
+    let all = all-closed p.contexts.items c.as_slice.result.now c.are_closed.result true c.as_slice.ensures.value c.are_closed.ensures c.if-not-are_closed.false in
+    let v = is-over p c.requires (sym c.is_empty.ensures ∙ c.if-is_empty.false) all in
+    sym (end-none p.declarations p.limits p.history.past v.idle
+    (wanted p c.any_ready.result c.as_slice-2.result.now c.requires v all c.any_ready.ensures c.if-not-any_ready.false c.as_slice-2.ensures.value)
+    (other-number (started p.history.past) p.limits.receives (λ (e : started p.history.past ≡ p.limits.receives). c.if-self.false (c.requires.started ∙ e))))

@@ -1,0 +1,118 @@
+use Rattle.std.proofs.Common.{◌≡◌, ◌∙◌, ◌+◌, ◌≤◌, ℕ, [], ◌∷◌, length, map, Some, None, refl, ap, sym, subst, arith, slice_set}
+use Rattle.std.specs.Vec.{with_item}
+use Rattle.em_log.specs.declared.entry.Event.{Event}
+use Rattle.em_log.specs.declared.ids.QueueId.{QueueId}
+use Rattle.em_log.specs.History.{entry_by, index_of}
+use Rattle.em_log.specs.Declarations.{object_of}
+use Rattle.em_log.specs.declared.ask.Context.{Context}
+use Rattle.em_log.specs.Answers.{object_id, context_told}
+use Rattle.em_log.specs.Leads.{item_again}
+use Rattle.em_bounds.specs.Paid.{paid}
+use Rattle.em_pool.specs.declared.place.Place.{Place}
+use Rattle.em_pool.specs.Steps.{Minted, Shifted}
+use Rattle.em_pool.specs.Stands as pools
+use Rattle.em_parts.specs.QueueSteps.{queue_steps}
+use Rattle.em_parts.specs.QueueAlike.{index_in}
+use Rattle.em_desk.specs.declared.opening.Opening.{Opening}
+use Rattle.em_desk.specs.declared.parts.Parts.{Parts}
+use Rattle.em_desk.specs.Histories.{HistoryState}
+use Rattle.em_desk.specs.Standing.{Stands}
+use Rattle.em_desk.proofs.Asked.{steps_of}
+use Rattle.em_desk.proofs.Begun.{pushed, settled-pools, settled-queues}
+use Rattle.em_desk.proofs.Minting.{can-mint}
+use Rattle.em_desk.proofs.Receives.{is-first, first-listed, received, is-next, take-room, start-room, told-by, begun-now, block-now, again-at, after_take, take_of, start_by}
+use Rattle.em_desk.proofs.Ready.{choice-less}
+use Rattle.em_desk.proofs.parts.Parts.receive.Goals as goal
+
+pub push-requires-clause-room : goal.push-requires-clause-room
+push-requires-clause-room c =
+    let p = c.args.self.now in
+    (take-room p c.args.core.0 c.args.queue c.requires.stands c.requires.core c.requires.choice (is-first p c.args.core.0 c.args.queue c.requires.stands c.requires.choice) c.requires.history).length
+
+pub push-requires-clause-paid : goal.push-requires-clause-paid
+push-requires-clause-paid c =
+    let p = c.args.self.now in
+    (take-room p c.args.core.0 c.args.queue c.requires.stands c.requires.core c.requires.choice (is-first p c.args.core.0 c.args.queue c.requires.stands c.requires.choice) c.requires.history).paid
+
+pub start-event-requires-clause-first : goal.start-event-requires-clause-first
+start-event-requires-clause-first c =
+    let p = c.args.self.now in
+    is-next p c.args.core.0 c.args.queue c.requires.stands c.requires.core c.requires.choice (is-first p c.args.core.0 c.args.queue c.requires.stands c.requires.choice)
+
+pub start-event-requires-clause-spare : goal.start-event-requires-clause-spare
+start-event-requires-clause-spare c = let m = c.requires.mintings in omega (arith, m)
+
+pub start-event-requires-clause-mintings : goal.start-event-requires-clause-mintings
+start-event-requires-clause-mintings c = can-mint c.args.self.now c.requires.stands
+
+pub push-requires-2-clause-room : goal.push-requires-2-clause-room
+push-requires-2-clause-room c =
+    let p = c.args.self.now in
+    let room = start-room p c.args.core.0 c.args.queue c.requires.stands c.requires.core c.requires.choice (is-first p c.args.core.0 c.args.queue c.requires.stands c.requires.choice) c.requires.history in
+    subst (λ (h : HistoryState). length h.past + 1 ≤ h.capacity) (sym c.push.ensures) room.length
+
+pub push-requires-2-clause-paid : goal.push-requires-2-clause-paid
+push-requires-2-clause-paid c =
+    let p = c.args.self.now in
+    let room = start-room p c.args.core.0 c.args.queue c.requires.stands c.requires.core c.requires.choice (is-first p c.args.core.0 c.args.queue c.requires.stands c.requires.choice) c.requires.history in
+    subst (λ (h : HistoryState). 2 + paid h.past ≤ h.capacity) (sym c.push.ensures) room.paid
+
+-- the history after both entries
+history-now : (p : Parts) (n : ℕ) (q : QueueId) (h1 h2 : HistoryState) (made copied : Event) → (e : Event) → h1 ≡ pushed p n (take_of q)
+    → h2 ≡ record h1 { past = entry_by n (start_by q copied) ∷ h1.past } → copied ≡ made → made ≡ e → h2 ≡ record p.history { past = after_take p.history.past n q e }
+history-now p n q h1 h2 made copied e first second copy is =
+    second ∙ (ap (λ (h : HistoryState). record h { past = entry_by n (start_by q copied) ∷ h.past }) first
+    ∙ ap (λ (v : Event). record p.history { past = entry_by n (start_by q v) ∷ entry_by n (take_of q) ∷ p.history.past }) (copy ∙ is))
+
+pub returns-clause-stands : goal.returns-clause-stands
+returns-clause-stands c =
+    let p = c.args.self.now in
+    let n = c.args.core.0 in
+    let q = c.args.queue in
+    let s = c.requires.stands in
+    let f = is-first p n q s c.requires.choice in
+    let is = again-at p n q c.start-event.result s f c.start-event.ensures.event in
+    let history = history-now p n q c.push.new.self c.push-2.new.self c.start-event.result c.copy.result (item_again p.history.past f.item) c.push.ensures c.push-2.ensures c.copy.ensures is in
+    let opens : Opening = Opening.Body (Some c.object_of.result) in
+    let q' : Parts = record p { pools = c.start-event.new.pools; queues = c.start-event.new.queues; contexts = with_item p.contexts c.from.result opens; started = p.started + 1 } in
+    let first = (settled-queues p 0 s).waiting q.0 n ∙ first-listed p n q s f in
+    let stands = subst (λ (e : Event). pools.Stands c.start-event.new.pools (Minted n e ∷ Shifted (index_of f.item.handle) (Place.Taken c.args.core) ∷ steps_of p)) is
+    (c.start-event.ensures.pools (steps_of p) (index_of f.item.handle) (map index_in f.rest) (settled-pools p 0 s) first) in
+    subst (λ (h : HistoryState). Stands (record q' { history = h })) (sym history)
+    (received p q' n q f s c.requires.core c.requires.choice c.requires.history c.requires.mintings stands c.start-event.ensures.shapes c.start-event.ensures.spent
+    (c.start-event.ensures.queues p.declarations (queue_steps p.declarations p.history.past) (settled-queues p 0 s)) c.start-event.ensures.same_shape
+    ((λ i. slice_set p.contexts.items (c.from.ensures i) (Opening.Body (Some (c.object_of.ensures i))))) refl (choice-less p n q.0 s c.requires.choice))
+
+pub returns-clause-past : goal.returns-clause-past
+returns-clause-past c =
+    let p = c.args.self.now in
+    let n = c.args.core.0 in
+    let q = c.args.queue in
+    let s = c.requires.stands in
+    let f = is-first p n q s c.requires.choice in
+    let is = again-at p n q c.start-event.result s f c.start-event.ensures.event in
+    ap (λ (h : HistoryState). h.past)
+    (history-now p n q c.push.new.self c.push-2.new.self c.start-event.result c.copy.result (item_again p.history.past f.item) c.push.ensures c.push-2.ensures c.copy.ensures is)
+    ∙ block-now p n q f
+
+pub returns-clause-told : goal.returns-clause-told
+returns-clause-told c =
+    let p = c.args.self.now in
+    let n = c.args.core.0 in
+    let q = c.args.queue in
+    let s = c.requires.stands in
+    let f = is-first p n q s c.requires.choice in
+    let e : Event = item_again p.history.past f.item in
+    let is = again-at p n q c.start-event.result s f c.start-event.ensures.event in
+    let history = history-now p n q c.push.new.self c.push-2.new.self c.start-event.result c.copy.result e c.push.ensures c.push-2.ensures c.copy.ensures is in
+    let opens : Opening = Opening.Body (Some c.object_of.result) in
+    let q' : Parts = record p { pools = c.start-event.new.pools; queues = c.start-event.new.queues; contexts = with_item p.contexts c.from.result opens; started = p.started + 1 } in
+    let first = (settled-queues p 0 s).waiting q.0 n ∙ first-listed p n q s f in
+    let stands = subst (λ (e : Event). pools.Stands c.start-event.new.pools (Minted n e ∷ Shifted (index_of f.item.handle) (Place.Taken c.args.core) ∷ steps_of p)) is
+    (c.start-event.ensures.pools (steps_of p) (index_of f.item.handle) (map index_in f.rest) (settled-pools p 0 s) first) in
+    let now = received p q' n q f s c.requires.core c.requires.choice c.requires.history c.requires.mintings stands c.start-event.ensures.shapes c.start-event.ensures.spent
+    (c.start-event.ensures.queues p.declarations (queue_steps p.declarations p.history.past) (settled-queues p 0 s)) c.start-event.ensures.same_shape
+    ((λ i. slice_set p.contexts.items (c.from.ensures i) (Opening.Body (Some (c.object_of.ensures i))))) refl (choice-less p n q.0 s c.requires.choice) in
+    let told = told-by (record q' { history = record p.history { past = after_take p.history.past n q e } }) n q e now (begun-now p.history.past n q e) in
+    subst (λ (v : Event). context_told p.declarations c.push-2.new.self.past n ≡ Some (Context.Receive (record { queue = q; eo = object_id (object_of p.declarations q.0); event = v; stamp = None; ticket = None; cells = None; rest = [] }))) (sym is)
+    (ap (λ (h : HistoryState). context_told p.declarations h.past n) history ∙ told)
