@@ -24,7 +24,8 @@ use Rattle.em_core.specs.Stands.{IsAt, IsOver, IsAtStage}
 use Rattle.em_body.specs.contracts.run.BodyRunWork.TheImpl.{ghosts}
 use Rattle.em_body.specs.Standings.{Made, Run, Standing, Moves, Ends, Goes, Sets, Branches, Repeats, Writes, Asks, entry_of, carried}
 use Rattle.em_body.proofs.AsksStand.{asks-stand}
-use Rattle.em_desk.specs.State.{DeskState, IsServed}
+use Rattle.em_desk.specs.State.{DeskState}
+use Rattle.em_desk.specs.Served.{served}
 use Rattle.em_drive.specs.Going.{IsGoing, IsAwaiting}
 use Rattle.em_drive.specs.Readings.{asked_entries, IsCurrent, IsReading}
 use Rattle.em_drive.proofs.Allowed.{ask-within, end-within}
@@ -36,7 +37,7 @@ use Rattle.em_drive.proofs.Waiting.{IsAsking, Working, Ending, asking}
 pub record IsAskable (k : Declarations) (past : Past) (c : ℕ) (a : Ask) : Type 0 where
   pub may_ask : IsTrue (may_ask k past c a)
   pub allowance : cost_of_ask a ≤ left k past c
-  pub served : IsServed a
+  pub served : IsTrue (served k a)
 
 -- contexts
 
@@ -150,7 +151,7 @@ askable-at g l desk c run a typed going (Ending cells is ends) =
       may_ask = may-stand k desk.past c w.over.context (Ask.End cells) w.reading.begun refl (subst (λ (b : Ask). IsTrue (is_typed b)) ends typed)
           (end-placed (Some (entry_of w.over.context)) (holds k desk.past c) cells w.hold);
       allowance = end-within g desk.past c cells;
-      served = tt;
+      served = refl;
     })
 
 pub askable : (g : Config) (l : Limits) (desk : DeskState) (c : ℕ) (run : CoreRun Run) (a : Ask) → IsTrue (is_typed a) → IsAwaiting (Some (Step.Ask a)) g l desk c run

@@ -1,7 +1,7 @@
 -- The order in which cores take turns, and what it is on the way: with the missing numbers below k alone.
 use Rattle.std.proofs.Common.{◌≡◌, ◌⊎◌, inl, inr, ℕ, zero, suc, ◌+◌, ◌<◌, ◌≤◌, ◌==◌, Bool, true, false, not, nat_lt, eqb, ◌&&◌, ◌||◌, List, [], ◌∷◌, ◌++◌, length, take, cond, append-nil, append_assoc, length-append, refl, ap, sym, ◌∙◌, subst, arith}
 use Rattle.std.specs.List.{filter, list_any, AllByRecursion, IsDistinct}
-use Rattle.std.proofs.lemmas.Bool.{eqb-true, ltb-true, lt-ltb, and_right, or_right, or_parts}
+use Rattle.std.proofs.lemmas.Bool.{eqb-true, eq-eqb, ltb-true, lt-ltb, ne_eqb, and_right, or_right, or_parts}
 use Rattle.std.proofs.lemmas.Bool.Decides.{nat_tests}
 use Rattle.std.proofs.lemmas.List.Elements.{filter-append}
 use Rattle.std.proofs.lemmas.List.Folds.{list_any-append}
@@ -11,7 +11,6 @@ use Rattle.em_log.specs.Declarations.{below, numbers_from}
 use Rattle.em_log.specs.History.{has}
 use Rattle.em_log.specs.Laws.{AreDifferent}
 use Rattle.em_desk.proofs.Numbers.{none-below, some-below}
-use Rattle.em_desk.proofs.Room.{own-test, other-test}
 use Rattle.em_drive.specs.Orders.{order_used, IsOrderOf}
 
 abbrev pub kept : List ℕ → ℕ → List ℕ
@@ -26,7 +25,7 @@ has-filter : (p : ℕ → Bool) (xs : List ℕ) (c : ℕ) → has (filter p xs) 
 has-filter p xs c = any-filter_same (λ m. m == c) p (p c) (λ m is. ap p (eqb-true m c is)) xs
 
 each-below : (k c : ℕ) → c < k → has (below k) c ≡ true
-each-below k c lt = some-below (λ m. m == c) k c lt (own-test c)
+each-below k c lt = some-below (λ m. m == c) k c lt (eq-eqb c c refl)
 
 within-below : (k c : ℕ) → has (below k) c ≡ true → c < k
 within-below k c is = by_test (nat_lt c k) refl
@@ -34,7 +33,7 @@ within-below k c is = by_test (nat_lt c k) refl
     by_test : (b : Bool) → nat_lt c k ≡ b → c < k
     by_test true e = ltb-true c k e
     by_test false e =
-        let none = none-below (λ m. m == c) k (λ j lt. other-test j c (λ same. absurd (cc (e, lt-ltb c k (subst (λ m. m < k) same lt))))) in
+        let none = none-below (λ m. m == c) k (λ j lt. ne_eqb j c (λ same. absurd (cc (e, lt-ltb c k (subst (λ m. m < k) same lt))))) in
         absurd (cc (is, none))
 
 has-used : (list : List ℕ) (n k c : ℕ)
@@ -69,7 +68,7 @@ used-each list n c lt = has-used list n n c ∙ both-on (nat_lt c n) (has list c
 not-above : (n a c : ℕ) → c < a → has (numbers_from a n) c ≡ false
 not-above zero a c lt = refl
 not-above (suc n) a c lt =
-    let here = other-test a c (λ same. absurd (omega arith)) in
+    let here = ne_eqb a c (λ same. absurd (omega arith)) in
     let rest = not-above n (suc a) c (omega arith) in
     rw (here, rest) refl
 
@@ -89,7 +88,7 @@ different-append : (xs ys : List ℕ) → AreDifferent xs → AreDifferent ys �
     → AreDifferent (xs ++ ys)
 different-append [] ys d e apart = e
 different-append (x ∷ xs) ys d e apart =
-    let own : has (x ∷ xs) x ≡ true = rw (own-test x) refl in
+    let own : has (x ∷ xs) x ≡ true = rw (eq-eqb x x refl) refl in
     let there = apart x own in
     let here = d.0 in (
       list_any-append (λ m. m == x) xs ys ∙ rw (here, there) refl,

@@ -2,9 +2,13 @@
 use Rattle.std.proofs.Common.{◌≡◌, ◌≢◌, ◌⊎◌, inl, inr, ℕ, zero, suc, ◌+◌, ◌<◌, ◌≤◌, ◌==◌, Bool, true, false, ◌||◌, List, [], ◌∷◌, ◌++◌, length, Option, Some, None, refl, sym, ap, ◌∙◌, subst, arith, slice_get, slice_set, slice_index_or, take, drop, eq-eqb, IfSome}
 use Rattle.std.proofs.lemmas.Option.{slice_get_within, slice_get_cases, slice_get-get_or}
 use Rattle.std.proofs.lemmas.List.{length-set}
+use Rattle.em_log.specs.declared.ask.Answer.{Answer}
+use Rattle.em_log.specs.declared.declarations.Declarations.{Declarations}
 use Rattle.em_log.specs.declared.graph.Config.{Config}
 use Rattle.em_log.specs.declared.ids.EndKind.{EndKind}
 use Rattle.em_log.specs.declared.ids.Limits.{Limits}
+use Rattle.em_log.specs.Answers.{Takes, Halted, Boots, Early, Enters, Acks, Receives, Rests, has_choice}
+use Rattle.em_log.specs.Contexts.{boot_ended}
 use Rattle.em_log.specs.Declarations.{declarations_of}
 use Rattle.em_log.specs.History.{Past, has}
 use Rattle.em_log.specs.Lawful.{Lawful}
@@ -15,7 +19,7 @@ use Rattle.em_core.specs.Steps.{unreplied, over}
 use Rattle.em_body.specs.contracts.run.BodyRunWork.TheImpl.{ghosts}
 use Rattle.em_body.specs.Standings.{Made, Run}
 use Rattle.em_laws.proofs.Cores.{Compared, Same, Other, compared, some-inj}
-use Rattle.em_desk.specs.State.{DeskState, IsWaited, Unbegun, Busy}
+use Rattle.em_desk.specs.State.{DeskState, IsWaited, Unbegun, Busy, Other as OtherCore}
 use Rattle.em_drive.specs.Going.{AreGoing, HasRounded, HasTurned, IsAfter, IsAwaiting, IsGrownBy, IsIdle}
 use Rattle.em_drive.specs.Orders.{IsOrderOf}
 use Rattle.em_drive.specs.Runs.{AreNew, IsNew, IsRun}
@@ -204,13 +208,26 @@ round-goes-on g l past was now order n c is (inr (none, idles)) (inr (same, idle
         subst (IsIdle g l past) core (subst (λ (h : Past). IsIdle g l h c) none idle)
     by_place i d lt at (Other _ apart) = idles i d (omega (arith, lt, apart)) at
 
+-- an idle core has no choice, once boot has ended
+no-choice : (k : Declarations) (l : Limits) (past now : Past) (c : ℕ) (b : Bool) (x : Answer) → b ≡ false → x ≡ Answer.Idle → boot_ended past ≡ true
+    → has_choice k l past c ≡ true → Takes k l b past c x now → ⊥
+no-choice k l past now c b x going is over some (Halted halts a n) = cc (halts, going)
+no-choice k l past now c b x going is over some (Boots h first a n) = cc (a, is)
+no-choice k l past now c b x going is over some (Early h second early a n) = cc (early, over)
+no-choice k l past now c b x going is over some (Enters e opened h booted owed new told a) = cc (a, is)
+no-choice k l past now c b x going is over some (Acks op h booted owed new a) = cc (a, is)
+no-choice k l past now c b x going is over some (Receives q opened h booted none choice new told a) = cc (a, is)
+no-choice k l past now c b x going is over some (Rests h booted none no_choice rest same) = cc (some, no_choice)
+
 -- not all cores are idle
 some-works : (g : Config) (l : Limits) (past : Past) → 0 < g.cores → ((c : ℕ) → c < g.cores → IsIdle g l past c) → ⊥
 some-works g l past some idle = by_waited (idle 0 some).waited
   where
-    by_waited : IsWaited (declarations_of g) past 0 → ⊥
+    by_waited : IsWaited (declarations_of g) l past 0 → ⊥
     by_waited (Unbegun empty other) = other refl
     by_waited (Busy d b below open') = cc ((idle d below).closed, open')
+    by_waited (OtherCore d below other over could) =
+        no-choice (declarations_of g) l past past d false Answer.Idle refl refl over could (idle d below).takes
 
 -- a whole round has added an entry
 pub round-grows : (g : Config) (l : Limits) (past now : Past) (order : List ℕ) → IsWellFormed g → IsOrderOf g.cores order

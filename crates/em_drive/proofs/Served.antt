@@ -4,6 +4,7 @@ use Rattle.std.proofs.lemmas.Bool.{and_parts}
 use Rattle.std.specs.List.{list_all}
 use Rattle.std.specs.Option.{option_map_or, option_or}
 use Rattle.std.specs.Prelude.{slice_get}
+use Rattle.em_log.specs.declared.ask.Ask.{Ask}
 use Rattle.em_log.specs.declared.ask.Context.{Context}
 use Rattle.em_log.specs.declared.body.Stmt.{Stmt}
 use Rattle.em_log.specs.declared.graph.Config.{Config}
@@ -15,10 +16,11 @@ use Rattle.em_log.specs.WellFormed.{IsWellFormed, Receive, Start, OtherOfObject,
 use Rattle.em_body.specs.Everywhere.{everywhere_in}
 use Rattle.em_body.specs.Standings.{body_of, entry_of, does_ask}
 use Rattle.em_body.proofs.AsksOfStatements.{asks-are}
-use Rattle.em_desk.specs.State.{IsServed}
+use Rattle.em_log.specs.Declarations.{declarations_of}
+use Rattle.em_desk.specs.Served.{served}
 use Rattle.em_drive.specs.Runnable.{is_runnable, is_runnable_object, is_runnable_statement}
 use Rattle.em_drive.specs.Servable.{IsServable}
-use Rattle.em_drive.proofs.Simple.{runnable-parts, runnable-simple, runnable-no_error, runnable-objects, object-parts}
+use Rattle.em_drive.proofs.Simple.{runnable-parts, sends-served, runnable-no_error, runnable-objects, object-parts}
 
 -- ---- bodies that were not given
 
@@ -97,25 +99,25 @@ runnable-bodies g well h (Context.GlobalStop op x) = for-declared g well h x.0 (
 
 -- ---- what a statement that runs asks is served
 
-pub runnable-served : (s : Stmt) (v : Env) → IsTrue (is_runnable_statement s) → IsTrue (does_ask s v) → IsServed (ask_of s v)
-runnable-served (Stmt.Say e) v h asks = tt
-runnable-served (Stmt.Alloc i p e ws) v h asks = tt
-runnable-served (Stmt.Free e) v h asks = tt
-runnable-served (Stmt.Keep e) v h asks = tt
-runnable-served (Stmt.Send e q) v h asks = tt
-runnable-served (Stmt.Claim i) v h asks = tt
-runnable-served (Stmt.Set i e) v h asks = absurd cc
-runnable-served s v h asks = absurd cc
+pub runnable-served : (g : Config) → IsWellFormed g → IsTrue (is_runnable g) → (s : Stmt) (v : Env) → IsTrue (is_runnable_statement s) → IsTrue (does_ask s v)
+    → IsTrue (served (declarations_of g) (ask_of s v))
+runnable-served g well runs (Stmt.Say e) v h asks = refl
+runnable-served g well runs (Stmt.Alloc i p e ws) v h asks = refl
+runnable-served g well runs (Stmt.Free e) v h asks = refl
+runnable-served g well runs (Stmt.Keep e) v h asks = refl
+runnable-served g well runs (Stmt.Send e q) v h asks = sends-served g well runs q.0
+runnable-served g well runs (Stmt.Claim i) v h asks = refl
+runnable-served g well runs (Stmt.Set i e) v h asks = absurd cc
+runnable-served g well runs s v h asks = absurd cc
 
 -- ---- the whole
 
 pub runnable-servable : (g : Config) → IsWellFormed g → IsTrue (is_runnable g) → IsServable g
 runnable-servable g well h =
     record {
-      simple = runnable-simple g well h;
       asks = λ c context es now a reached asks.
           let of = asks-are is_runnable_statement (record { graph = g; core = c }) context es now reached (runnable-bodies g well h context) a asks in
-          subst IsServed (sym of.is) (runnable-served of.statement now.env of.passes of.asks);
+          subst (λ (a : Ask). IsTrue (served (declarations_of g) a)) (sym of.is) (runnable-served g well h of.statement now.env of.passes of.asks);
       error = runnable-no_error g h;
       errors = runnable-objects g h;
     }

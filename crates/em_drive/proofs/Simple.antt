@@ -1,9 +1,10 @@
 -- A graph that runs today is one that the desk serves.
-use Rattle.std.proofs.Common.{◌≡◌, ℕ, ◌<◌, ◌==◌, Bool, true, false, not, ◌&&◌, ◌||◌, List, [], ◌∷◌, length, map, Option, Some, None, is_none, is_some, refl, ap, sym, subst, arith, IsTrue, nat_lt}
+use Rattle.std.proofs.Common.{◌≡◌, ℕ, ◌<◌, ◌==◌, Bool, true, false, not, ◌&&◌, ◌||◌, List, [], ◌∷◌, length, map, Option, Some, None, is_none, is_some, refl, ap, sym, subst, arith, IsTrue, nat_lt, zero, suc, slice_get}
 use Rattle.std.proofs.lemmas.Bool.{and_parts, eqb-true, ltb-true}
 use Rattle.std.proofs.lemmas.List.{length-map}
 use Rattle.std.specs.List.{AllByRecursion, list_all}
 use Rattle.std.specs.Option.{option_map_or}
+use Rattle.em_log.specs.declared.declarations.Declarations.{Declarations}
 use Rattle.em_log.specs.declared.declarations.QueueShape.{QueueShape}
 use Rattle.em_log.specs.declared.graph.Config.{Config}
 use Rattle.em_log.specs.declared.graph.EoDecl.{EoDecl}
@@ -14,7 +15,7 @@ use Rattle.em_log.specs.declared.ids.GroupId.{GroupId}
 use Rattle.em_log.specs.declared.ids.Kind.{Kind}
 use Rattle.em_log.specs.Declarations.{declarations_of, pool_shape, eo_shape, queue_shape, group_shape, agroup_shape}
 use Rattle.em_log.specs.WellFormed.{IsWellFormed, is_queue_decl, is_queue_of, has_eo, has_group}
-use Rattle.em_desk.specs.Simple.{IsSimple, IsParallel}
+use Rattle.em_desk.specs.Served.{serves_queue}
 use Rattle.em_drive.specs.Runnable.{is_runnable, is_runnable_object, is_runnable_queue, is_runnable_body, is_empty, is_parallel, is_normal, is_all}
 
 -- ---- the parts of the test
@@ -114,6 +115,17 @@ all-run (d ∷ ds) h =
 
 -- ---- queues
 
+-- a parallel queue of this object, of priority normal and of all cores
+abbrev parallel_queue : EoId → QueueShape
+parallel_queue x =
+    record { kind = Kind.Parallel; eo = Some x; priority = Some Priority.Normal; group = Some (record { 0 = 0 }); agroup = None }
+
+-- the queue is such a one, of an object that is one of n
+record IsParallel (n : ℕ) (d : QueueShape) : Type 0 where
+  object : EoId
+  declared : object.0 < n
+  is : d ≡ parallel_queue object
+
 the-kind : (k : Kind) → is_parallel k ≡ true → k ≡ Kind.Parallel
 the-kind Kind.Parallel h = refl
 the-kind k h = absurd cc
@@ -171,25 +183,44 @@ all-parallel g (d ∷ ds) h well =
     let b = and_parts (is_queue_decl g d) (list_all (is_queue_decl g) ds) well in
     (queue-parallel g d a.0 b.0, all-parallel g ds a.1 b.1)
 
--- ---- the whole
+-- ---- sends
 
-pub runnable-simple : (g : Config) → IsWellFormed g → IsTrue (is_runnable g) → IsSimple (declarations_of g)
-runnable-simple g well h =
-    let parts = runnable-parts g h in
-    let few = well.few in
-    let objects = length-map g.eos eo_shape in
-    let queues = length-map g.queues queue_shape in
-    let pools = length-map g.pools pool_shape in
-    record {
-      some_cores = few.cores.0;
-      most_cores = few.cores.1;
-      pools = let a = few.pools in omega arith;
-      events = few.events;
-      objects = let a = few.eos in omega arith;
-      queue_count = let a = few.queues in omega arith;
-      groups = ap (map group_shape) parts.groups;
-      running = all-run g.eos parts.objects;
-      agroups = ap (map agroup_shape) parts.agroups;
-      queues = subst (λ n. AllByRecursion (IsParallel n) (map queue_shape g.queues)) (sym objects) (all-parallel g g.queues parts.queues well.queues);
-      egroups = ap length parts.egroups;
-    }
+-- a parallel queue of an object that runs is one that the desk serves
+serves-parallel : (k : Declarations) (q : ℕ) (x : EoId) → slice_get k.queues q ≡ Some (parallel_queue x) → slice_get k.running x.0 ≡ Some true
+    → serves_queue k q ≡ true
+serves-parallel k q x at runs = rw (at, runs) refl
+
+serves-none : (k : Declarations) (q : ℕ) → slice_get k.queues q ≡ None → serves_queue k q ≡ true
+serves-none k q at = rw at refl
+
+run-at : (rs : List Bool) (i : ℕ) → AllByRecursion (λ r. r ≡ true) rs → i < length rs → slice_get rs i ≡ Some true
+run-at [] i all lt = absurd (omega arith)
+run-at (r ∷ rs) zero all lt = ap Some all.0
+run-at (r ∷ rs) (suc i) all lt = run-at rs i all.1 (omega arith)
+
+-- a queue that is declared, or none
+data QueueAt (n : ℕ) (qs : List QueueShape) (q : ℕ) : Type 0 where
+  Absent : slice_get qs q ≡ None → QueueAt n qs q
+  Present : (x : EoId) → x.0 < n → slice_get qs q ≡ Some (parallel_queue x) → QueueAt n qs q
+
+queue-in : (n : ℕ) (qs : List QueueShape) (q : ℕ) → AllByRecursion (IsParallel n) qs → QueueAt n qs q
+queue-in n [] q all = Absent refl
+queue-in n (d ∷ ds) zero all = Present all.0.object all.0.declared (ap Some all.0.is)
+queue-in n (d ∷ ds) (suc q) all = later (queue-in n ds q all.1)
+  where
+    later : QueueAt n ds q → QueueAt n (d ∷ ds) (suc q)
+    later (Absent is) = Absent is
+    later (Present x declared is) = Present x declared is
+
+-- every send of a graph that runs today is served
+pub sends-served : (g : Config) → IsWellFormed g → IsTrue (is_runnable g) → (q : ℕ) → serves_queue (declarations_of g) q ≡ true
+sends-served g well h q = by_queue (queue-in (length g.eos) (map queue_shape g.queues) q (all-parallel g g.queues parts.queues well.queues))
+  where
+    parts : Parts g
+    parts = runnable-parts g h
+
+    by_queue : QueueAt (length g.eos) (map queue_shape g.queues) q → serves_queue (declarations_of g) q ≡ true
+    by_queue (Absent is) = serves-none (declarations_of g) q is
+    by_queue (Present x declared is) =
+        let count = length-map g.eos eo_shape in
+        serves-parallel (declarations_of g) q x is (run-at (map eo_shape g.eos) x.0 (all-run g.eos parts.objects) (omega (arith, declared, count)))

@@ -71,13 +71,14 @@ lawful-of g l desk graph limits lawful =
     subst (λ (m : Limits). Lawful (declarations_of g) m desk.past) limits (subst (λ (k : Declarations). Lawful k desk.limits desk.past) graph lawful)
 
 pub took-now : (g : Config) (l : Limits) (desk now : DeskState) (c : ℕ) (run : CoreRun Run) (x : Answer) → IsAwaiting (Some Step.Take) g l desk c run
-    → (x ≡ Answer.Idle → IsWaited desk.declarations desk.past c)
+    → (x ≡ Answer.Idle → IsWaited desk.declarations desk.limits desk.past c)
     → Takes desk.declarations desk.limits desk.halted desk.past c x now.past → Took g l desk.past c x now.past
 took-now g l desk now c run x w idle takes =
     let going = w.going in
     let graph = going.graph in
     took g l desk.past now.past c x going.burst (closed-now g l desk c run w)
-    (λ i. subst (λ (k : Declarations). IsWaited k desk.past c) graph (idle i))
+    (λ i. subst (λ (m : Limits). IsWaited (declarations_of g) m desk.past c) going.limits
+    (subst (λ (k : Declarations). IsWaited k desk.limits desk.past c) graph (idle i)))
     (subst (λ b. Takes (declarations_of g) l b desk.past c x now.past) going.running
     (subst (λ (m : Limits). Takes (declarations_of g) m desk.halted desk.past c x now.past) going.limits
     (subst (λ (k : Declarations). Takes k desk.limits desk.halted desk.past c x now.past) graph takes)))

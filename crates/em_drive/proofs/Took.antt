@@ -60,7 +60,7 @@ limit-ends k l past limit =
     rw (loud, limit) refl
 
 idles : (g : Config) (l : Limits) (past now : Past) (c : ℕ) (x : Answer) → let k = declarations_of g in
-    context past c ≡ None → Takes k l false past c x now → (x ≡ Answer.Idle → IsWaited k past c) → x ≡ Answer.Idle → now ≡ past → Took g l past c x now
+    context past c ≡ None → Takes k l false past c x now → (x ≡ Answer.Idle → IsWaited k l past c) → x ≡ Answer.Idle → now ≡ past → Took g l past c x now
 idles g l past now c x closed takes waited is same =
     Idles is same
     (record {
@@ -79,7 +79,7 @@ rests g l past now c x idle same rest = absurd rest
 
 -- a take with a burst of 1 between contexts
 pub took : (g : Config) (l : Limits) (past now : Past) (c : ℕ) (x : Answer) → let k = declarations_of g in
-    l.burst ≡ 1 → context past c ≡ None → (x ≡ Answer.Idle → IsWaited k past c) → Takes k l false past c x now
+    l.burst ≡ 1 → context past c ≡ None → (x ≡ Answer.Idle → IsWaited k l past c) → Takes k l false past c x now
     → Took g l past c x now
 took g l past now c x burst closed waited (Halted halts is same) = absurd cc
 took g l past now c x burst closed waited (Boots going first is new) =

@@ -69,7 +69,7 @@ IsGrownBy c past now = (ws : List What) × (now ≡ onto (entries_by c ws) past)
 pub record IsIdle (g : Config) (l : Limits) (past : Past) (c : ℕ) : Type 0 where
   pub closed : context past c ≡ None
   pub takes : Takes (declarations_of g) l false past c Answer.Idle past
-  pub waited : IsWaited (declarations_of g) past c
+  pub waited : IsWaited (declarations_of g) l past c
 
 -- a turn of core c has added an entry, or the core is idle
 abbrev pub HasTurned : Config → Limits → Past → ℕ → Past → Type 0

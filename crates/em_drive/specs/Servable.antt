@@ -8,14 +8,12 @@ use Rattle.em_log.specs.Works.{Exchange}
 use Rattle.em_log.specs.Declarations.{declarations_of}
 use Rattle.em_body.specs.Followed.{IsReached}
 use Rattle.em_body.specs.Standings.{Standing, unanswered}
-use Rattle.em_desk.specs.Simple.{IsSimple}
-use Rattle.em_desk.specs.State.{IsServed}
+use Rattle.em_desk.specs.Served.{served}
 
--- today's desk is over simple graphs and serves some asks: each ask that a body of the graph comes to is one of these, and
--- no error body serves a fault
+-- today's desk serves some asks: each ask that a body of the graph comes to is one of these, and no error body serves a fault
 pub record IsServable (g : Config) : Type 0 where
-  pub simple : IsSimple (declarations_of g)
   pub asks : (c : ℕ) (context : Context) (es : List Exchange) (now : Standing) (a : Ask)
-      → IsReached (record { graph = g; core = c }) context es now → unanswered now ≡ Some a → IsServed a
+      → IsReached (record { graph = g; core = c }) context es now → unanswered now ≡ Some a
+      → IsTrue (served (declarations_of g) a)
   pub error : g.error ≡ None
   pub errors : IsTrue (list_all (λ d. is_none d.error) g.eos)

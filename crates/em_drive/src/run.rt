@@ -7,7 +7,7 @@ ghost use Rattle.em_log.specs.WellFormed.{IsWellFormed};
 ghost use Rattle.em_core.specs.declared.core_run.Step.{Step as TheStep};
 ghost use Rattle.em_core.specs.Steps.{unreplied, awaited, over};
 ghost use Rattle.em_body.specs.contracts.run.BodyRunWork.TheImpl.{ghosts};
-ghost use Rattle.em_desk.specs.Simple.{AreInRange};
+ghost use Rattle.em_desk.specs.Graphs.{AreInRange};
 ghost use Rattle.em_desk.specs.State.{DeskState};
 ghost use Rattle.em_drive.specs.Going.{AreGoing, HasTurned, IsAwaiting, IsForDesk, IsAfter, IsGrownBy, end_in};
 ghost use Rattle.em_drive.specs.Orders.{IsOrderOf};
@@ -17,7 +17,7 @@ ghost use Rattle.em_drive.specs.Servable.{IsServable};
 use crate::order::Order;
 use em_body::{BodyRun, steps_run_out};
 use em_core::{CoreRun, Step};
-use em_desk::Desk;
+use em_desk::{Desk, well_formed_is_in_bounds};
 use em_log::{Answer, Ask, Config, Context, CoreId, EndKind, Gate, Limits, NoMemory};
 use std::alloc::Global;
 
@@ -26,7 +26,7 @@ fn history_is_lawful(desk: &Desk)
     ensures lawful { Lawful desk.now.declarations desk.now.limits desk.now.past }
     ensures few { length desk.now.past ≤ 260 * (1 + desk.now.limits.receives) }
 {
-    desk.history_is_simple();
+    let _log = desk.log();
 }
 
 /// The next step of the run that is for the desk: silent ones are carried out.
@@ -176,6 +176,7 @@ pub fn solo<G: Gate>(
     requires order { IsOrderOf config.now.cores order.now }
     ensures { IfOk result (λ run. IsRun config.now limits run.0 run.1) }
 {
+    well_formed_is_in_bounds();
     let mut desk = Desk::build(alloc, config, limits)?;
     let mut runs = new_runs(alloc, config)?;
     loop {

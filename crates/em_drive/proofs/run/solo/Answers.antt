@@ -11,9 +11,6 @@ not-some : (o : Option EndKind) → ((end : EndKind) → o ≡ Some end → ⊥)
 not-some None none = refl
 not-some (Some end) none = absurd (none end refl)
 
-pub build-requires-clause-simple : goal.build-requires-clause-simple
-build-requires-clause-simple g c = c.requires.servable.simple
-
 pub loop-core-init : goal.loop-core-init
 loop-core-init g c =
     subst (λ (d : DeskState). AreGoing c.args.config.now c.args.limits d c.in_ok-runs.runs.items) (sym c.in_ok-desk.ensures)
