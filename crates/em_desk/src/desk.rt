@@ -9,6 +9,7 @@ ghost use Rattle.em_log.specs.Lawful.{Lawful, may_ask};
 ghost use Rattle.em_log.specs.Allowance.{cost_of_ask, left};
 ghost use Rattle.em_log.specs.Answers.{Takes, end_of};
 ghost use Rattle.em_desk.specs.Graphs.{AreInBounds, AreInRange};
+ghost use Rattle.em_laws.specs.AllLaws.{KeepsLaws};
 ghost use Rattle.em_desk.specs.Served.{served, AllServed};
 ghost use Rattle.em_desk.specs.State.{DeskState, IsSameRun, IsWaited, IsAnswered};
 
@@ -134,6 +135,7 @@ impl Desk {
     pub fn log(&self) -> &[Entry]
         ensures value { result.now ≡ reverse self.now.past }
         ensures lawful { Lawful self.now.declarations self.now.limits self.now.past }
+        ensures laws { KeepsLaws self.now.declarations self.now.past }
         ensures served { AllServed self.now.declarations self.now.past }
         ensures few { length self.now.past ≤ 260 * (1 + self.now.limits.receives) }
     {

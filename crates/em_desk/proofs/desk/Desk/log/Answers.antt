@@ -1,4 +1,6 @@
 use Rattle.std.proofs.Common.{◌+◌, ◌*◌, ◌≤◌, length, subst, arith}
+use Rattle.em_laws.specs.AllLaws.{KeepsLaws}
+use Rattle.em_laws.proofs.AllLaws.{keeps-laws}
 use Rattle.em_desk.specs.State.{DeskState}
 use Rattle.em_desk.proofs.Rooms.{has-room}
 use Rattle.em_desk.proofs.desk.Desk.log.Goals as goal
@@ -10,3 +12,9 @@ returns-clause-few c =
     let fits = has-room p.declarations p.limits p.history.past (260 * (1 + p.started)) s.all s.bounded in
     let within = s.within in
     subst (λ (t : DeskState). length t.past ≤ 260 * (1 + t.limits.receives)) c.self.view_is (omega (arith, fits, within))
+
+pub returns-clause-laws : goal.returns-clause-laws
+returns-clause-laws c =
+    let p = c.self.inside.parts in
+    subst (λ (t : DeskState). KeepsLaws t.declarations t.past) c.self.view_is
+    (keeps-laws p.declarations p.limits p.history.past c.self.invariant.all)
