@@ -1,0 +1,2 @@
+pub mod AtomicSteps
+pub mod AtomicAlike

@@ -1,0 +1,24 @@
+//! The steps of atomic contexts, ordered queues and event groups, made from a history, and that they tell of each part
+//! what the history tells.
+#![tactic(auto)]
+
+ghost use Rattle.std.specs.Prelude.{ℕ, ◌≡◌, ◌≤◌, false, List};
+ghost use Rattle.em_log.specs.declared.declarations.Declarations.{Declarations};
+ghost use Rattle.em_log.specs.declared.entry.What.{What};
+ghost use Rattle.em_log.specs.declared.ids.Limits.{Limits};
+ghost use Rattle.em_log.specs.History.{Past};
+ghost use Rattle.em_log.specs.Lawful.{AllAllowed};
+ghost use Rattle.em_atomic.specs.Steps.{AtomicStep};
+ghost use Rattle.em_context_parts.specs.AtomicAlike.{AtomicsAlike};
+ghost use Rattle.em_context_parts.specs.AtomicSteps.{atomic_after, touches_atomics};
+
+/// The holders of a history's atomic contexts, what each core holds, and the cells of each free context are those of its
+/// steps of atomic contexts, where takes of an atomic queue take something.
+pub fn atomics_alike()
+    ensures { (k : Declarations) (l : Limits) (past : Past) → 1 ≤ l.burst → AllAllowed k l past → AtomicsAlike k past }
+{}
+
+/// An entry that touches no atomic context adds no step of them.
+pub fn atomics_untouched()
+    ensures { (k : Declarations) (past : Past) (c : ℕ) (w : What) (steps : List AtomicStep) → touches_atomics w ≡ false → atomic_after k past c w steps ≡ steps }
+{}
