@@ -1,2 +1,4 @@
 pub mod ObjectSteps
 pub mod ObjectsAlike
+pub mod AckSteps
+pub mod OperationsAlike

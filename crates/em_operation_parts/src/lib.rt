@@ -2,13 +2,18 @@
 //! tells.
 #![tactic(auto)]
 
-ghost use Rattle.std.specs.Prelude.{◌≡◌, false, List};
+ghost use Rattle.std.specs.Prelude.{ℕ, ◌≡◌, false, List};
 ghost use Rattle.em_log.specs.declared.declarations.Declarations.{Declarations};
 ghost use Rattle.em_log.specs.declared.entry.What.{What};
+ghost use Rattle.em_log.specs.declared.ids.Limits.{Limits};
 ghost use Rattle.em_log.specs.History.{Past};
+ghost use Rattle.em_log.specs.Lawful.{AllAllowed, Lawful};
 ghost use Rattle.em_objects.specs.Steps.{ObjectStep};
+ghost use Rattle.em_acks.specs.Steps.{AckStep};
 ghost use Rattle.em_operation_parts.specs.ObjectSteps.{object_after, touches_objects};
 ghost use Rattle.em_operation_parts.specs.ObjectsAlike.{ObjectsAlike};
+ghost use Rattle.em_operation_parts.specs.AckSteps.{ack_after, touches_operations};
+ghost use Rattle.em_operation_parts.specs.OperationsAlike.{OperationsAlike, PendingAlike};
 
 /// The states of a history's objects, the flags of its queues, and which queues are closed and which deliver, are those of
 /// its steps of the objects. This holds of every history.
@@ -19,4 +24,20 @@ pub fn objects_alike()
 /// An entry that touches no object and no flag adds no step of the objects.
 pub fn objects_untouched()
     ensures { (past : Past) (w : What) (steps : List ObjectStep) → touches_objects w ≡ false → object_after past w steps ≡ steps }
+{}
+
+/// The operations of a history, what each core owes them, and which are done, are those of its steps of the operations.
+pub fn operations_alike()
+    ensures { (k : Declarations) (l : Limits) (past : Past) → AllAllowed k l past → OperationsAlike k past }
+{}
+
+/// Where nothing is due, so are those that are pending, and why none may begin; and none is pending exactly where no core
+/// owes a step.
+pub fn pending_alike()
+    ensures { (k : Declarations) (l : Limits) (past : Past) → Lawful k l past → PendingAlike k past }
+{}
+
+/// An entry that neither begins an operation nor ends a step of one adds no step of the operations.
+pub fn operations_untouched()
+    ensures { (c : ℕ) (w : What) (steps : List AckStep) → touches_operations w ≡ false → ack_after c w steps ≡ steps }
 {}
