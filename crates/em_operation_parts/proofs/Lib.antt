@@ -4,3 +4,5 @@ pub mod OwedSteps
 pub mod DoneOperations
 pub mod PendingOperations
 pub mod Operations
+pub mod PendingChanges
+pub mod GroupMasks

@@ -10,6 +10,9 @@ ghost use Rattle.em_log.specs.History.{Past};
 ghost use Rattle.em_log.specs.Lawful.{AllAllowed, Lawful};
 ghost use Rattle.em_objects.specs.Steps.{ObjectStep};
 ghost use Rattle.em_acks.specs.Steps.{AckStep};
+ghost use Rattle.em_groups.specs.Steps.{GroupStep};
+ghost use Rattle.em_operation_parts.specs.GroupSteps.{group_after, touches_groups};
+ghost use Rattle.em_operation_parts.specs.GroupsAlike.{GroupsAlike};
 ghost use Rattle.em_operation_parts.specs.ObjectSteps.{object_after, touches_objects};
 ghost use Rattle.em_operation_parts.specs.ObjectsAlike.{ObjectsAlike};
 ghost use Rattle.em_operation_parts.specs.AckSteps.{ack_after, touches_operations};
@@ -40,4 +43,14 @@ pub fn pending_alike()
 /// An entry that neither begins an operation nor ends a step of one adds no step of the operations.
 pub fn operations_untouched()
     ensures { (c : ℕ) (w : What) (steps : List AckStep) → touches_operations w ≡ false → ack_after c w steps ≡ steps }
+{}
+
+/// The masks of a history's queue groups, and the changes that are pending, are those of its steps of the groups.
+pub fn groups_alike()
+    ensures { (k : Declarations) (l : Limits) (past : Past) → AllAllowed k l past → GroupsAlike k past }
+{}
+
+/// An entry that touches no mask adds no step of the queue groups.
+pub fn groups_untouched()
+    ensures { (past : Past) (w : What) (steps : List GroupStep) → touches_groups w ≡ false → group_after past w steps ≡ steps }
 {}
