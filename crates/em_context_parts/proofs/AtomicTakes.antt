@@ -38,7 +38,7 @@ pub record Serving (k : Declarations) (a : ℕ) (source : Option ℕ) (items : L
 abbrev pub Serves : Declarations → Past → ℕ → ℕ → Type 0
 Serves k past a c = Serving k a (take_queue past c) (taken k past c) (context past c) (within k past c)
 
-some-taken : (n : ℕ) (x : Item) (xs ys : List Item) → 0 < n → ys ≡ x ∷ xs → take n ys ≢ []
+pub some-taken : (n : ℕ) (x : Item) (xs ys : List Item) → 0 < n → ys ≡ x ∷ xs → take n ys ≢ []
 some-taken zero x xs ys lt is e = absurd (omega arith)
 some-taken (suc n) x xs ys lt is e = let cut = sym (ap (take (suc n)) is) ∙ e in absurd (cc cut)
 

@@ -2,4 +2,11 @@ pub mod HeldAtomics
 pub mod AtomicTakes
 pub mod AtomicHolders
 pub mod AtomicCells
+pub mod OpenTickets
+pub mod Tickets
+pub mod LetIn
+pub mod HeldSends
+pub mod Orders
+pub mod Carried
+pub mod SentStamps
 pub mod Untouched

@@ -1,10 +1,12 @@
 -- An entry that does not touch a part adds no step of it.
-use Rattle.std.proofs.Common.{◌≡◌, ℕ, false, List, refl}
+use Rattle.std.proofs.Common.{◌≡◌, ℕ, false, List, Some, None, refl}
 use Rattle.em_log.specs.declared.declarations.Declarations.{Declarations}
 use Rattle.em_log.specs.declared.entry.What.{What}
 use Rattle.em_log.specs.History.{Past}
 use Rattle.em_atomic.specs.Steps.{AtomicStep}
+use Rattle.em_order.specs.Steps.{OrderStep}
 use Rattle.em_context_parts.specs.AtomicSteps.{atomic_after, touches_atomics}
+use Rattle.em_context_parts.specs.OrderSteps.{order_after, touches_orders}
 
 pub atomics-untouched : (k : Declarations) (past : Past) (c : ℕ) (w : What) (steps : List AtomicStep) → touches_atomics w ≡ false
     → atomic_after k past c w steps ≡ steps
@@ -13,3 +15,11 @@ atomics-untouched k past c (What.Untake q n) steps is = absurd cc
 atomics-untouched k past c (What.End lost cells) steps is = absurd cc
 atomics-untouched k past c (What.EndAtomic rest cells) steps is = absurd cc
 atomics-untouched k past c w steps is = refl
+
+pub orders-untouched : (past : Past) (c : ℕ) (w : What) (steps : List OrderStep) → touches_orders w ≡ false → order_after past c w steps ≡ steps
+orders-untouched past c (What.Take q n (Some t)) steps is = absurd cc
+orders-untouched past c (What.Take q n None) steps is = refl
+orders-untouched past c (What.Send h q t s) steps is = absurd cc
+orders-untouched past c What.EndOrdered steps is = absurd cc
+orders-untouched past c (What.End lost cells) steps is = absurd cc
+orders-untouched past c w steps is = refl

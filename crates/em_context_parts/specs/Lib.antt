@@ -1,2 +1,5 @@
 pub mod AtomicSteps
 pub mod AtomicAlike
+pub mod OrderSteps
+pub mod OrderAlike
+pub mod SentStamps
