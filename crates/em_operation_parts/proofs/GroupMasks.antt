@@ -1,5 +1,5 @@
 -- The masks of the steps of queue groups are those of the history.
-use Rattle.std.proofs.Common.{◌≡◌, ℕ, ◌==◌, false, List, [], ◌∷◌, Option, Some, None, if◌then◌else◌, refl, sym, ap, ◌∙◌}
+use Rattle.std.proofs.Common.{◌≡◌, ℕ, ◌==◌, false, List, [], ◌∷◌, Option, Some, None, if◌then◌else◌, refl, sym, subst, ap, ◌∙◌}
 use Rattle.std.specs.Option.{option_map_or}
 use Rattle.em_log.specs.declared.declarations.Declarations.{Declarations}
 use Rattle.em_log.specs.declared.entry.Begun.{Begun}
@@ -17,7 +17,7 @@ use Rattle.em_groups.specs.Steps.{GroupStep}
 use Rattle.em_groups.specs.Masks.{change, mask, or_stays}
 use Rattle.em_operation_parts.specs.GroupSteps.{begun_steps, done_steps, group_after, group_steps, touches_groups}
 use Rattle.em_operation_parts.specs.GroupsAlike.{GroupsAlike}
-use Rattle.em_operation_parts.proofs.PendingChanges.{done-given_mask}
+use Rattle.em_operation_parts.proofs.PendingTargets.{IsMarked, done-marked_before}
 
 -- pending changes
 
@@ -80,7 +80,7 @@ module _ (k : Declarations) where
       → mask k (group_after past w (group_steps past)) g ≡ log.mask_after past g w (mask k (group_steps past) g)
   mask-after l past c (What.Begin op job notes) g all m = mask-begun job (group_steps past) g
   mask-after l past c (What.Done op ok) g all m =
-      mask-completed past g (operation past op.0) (λ o h new at job. done-given_mask k l past c op ok o h new all m at job)
+      mask-completed past g (operation past op.0) (λ o h new at job. subst (IsMarked k past) job (done-marked_before k l past c op ok o all m at))
   mask-after l past c w g all m = refl
 
   pub same-mask : (l : Limits) (past : Past) → AllAllowed k l past → (g : ℕ) → mask k (group_steps past) g ≡ log.mask k past g

@@ -1,8 +1,15 @@
 pub mod ObjectStates
 pub mod OperationSteps
 pub mod OwedSteps
+pub mod CompleteOperations
+pub mod DueEntries
 pub mod DoneOperations
+pub mod IdleCores
 pub mod PendingOperations
 pub mod Operations
-pub mod PendingChanges
+pub mod PendingTargets
 pub mod GroupMasks
+pub mod OpenSteps
+pub mod Targets
+pub mod BegunOperations
+pub mod Refusals

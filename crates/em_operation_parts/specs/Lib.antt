@@ -4,3 +4,6 @@ pub mod AckSteps
 pub mod OperationsAlike
 pub mod GroupSteps
 pub mod GroupsAlike
+pub mod Targets
+pub mod BegunOperations
+pub mod Refusals

@@ -2,7 +2,7 @@
 //! tells.
 #![tactic(auto)]
 
-ghost use Rattle.std.specs.Prelude.{ℕ, ◌≡◌, false, List};
+ghost use Rattle.std.specs.Prelude.{ℕ, ◌≡◌, ◌<◌, false, List, Some};
 ghost use Rattle.em_log.specs.declared.declarations.Declarations.{Declarations};
 ghost use Rattle.em_log.specs.declared.entry.What.{What};
 ghost use Rattle.em_log.specs.declared.ids.Limits.{Limits};
@@ -10,13 +10,22 @@ ghost use Rattle.em_log.specs.History.{Past};
 ghost use Rattle.em_log.specs.Lawful.{AllAllowed, Lawful};
 ghost use Rattle.em_objects.specs.Steps.{ObjectStep};
 ghost use Rattle.em_acks.specs.Steps.{AckStep};
+ghost use Rattle.em_acks.specs.Stands.{Stands as AckStands};
+ghost use Rattle.em_acks.specs.State.{AckState, owed_at};
+ghost use Rattle.em_acks.specs.declared.job.Phase.{Phase};
+ghost use Rattle.em_log.specs.declared.entry.Body.{Body};
+ghost use Rattle.em_log.specs.declared.ids.OpId.{OpId};
+ghost use Rattle.em_log.specs.Contexts.{context};
 ghost use Rattle.em_groups.specs.Steps.{GroupStep};
 ghost use Rattle.em_operation_parts.specs.GroupSteps.{group_after, touches_groups};
 ghost use Rattle.em_operation_parts.specs.GroupsAlike.{GroupsAlike};
 ghost use Rattle.em_operation_parts.specs.ObjectSteps.{object_after, touches_objects};
 ghost use Rattle.em_operation_parts.specs.ObjectsAlike.{ObjectsAlike};
-ghost use Rattle.em_operation_parts.specs.AckSteps.{ack_after, touches_operations};
+ghost use Rattle.em_operation_parts.specs.AckSteps.{ack_after, ack_steps, touches_operations, step_in};
 ghost use Rattle.em_operation_parts.specs.OperationsAlike.{OperationsAlike, PendingAlike};
+ghost use Rattle.em_operation_parts.specs.Targets.{TargetsAlike};
+ghost use Rattle.em_operation_parts.specs.BegunOperations.{BegunAlike};
+ghost use Rattle.em_operation_parts.specs.Refusals.{RefusalsAlike};
 
 /// The states of a history's objects, the flags of its queues, and which queues are closed and which deliver, are those of
 /// its steps of the objects. This holds of every history.
@@ -53,4 +62,26 @@ pub fn groups_alike()
 /// An entry that touches no mask adds no step of the queue groups.
 pub fn groups_untouched()
     ensures { (past : Past) (w : What) (steps : List GroupStep) → touches_groups w ≡ false → group_after past w steps ≡ steps }
+{}
+
+/// The step whose context a core has open is owed: the condition of `ack` and `global` of the operations.
+pub fn open_steps_are_owed()
+    ensures { (k : Declarations) (l : Limits) (past : Past) → AllAllowed k l past → (v : AckState) → AckStands v (ack_steps past) → v.cores ≡ k.cores → (c : ℕ) (b : Body) (r : OpId × Phase) → c < k.cores → context past c ≡ Some (What.Enter b) → step_in b ≡ Some r → owed_at v c r.0.0 ≡ Some r.1 }
+{}
+
+/// What an operation that is not done does to its target is told by the parts: the conditions of `set` of the objects, and of
+/// `begin` and `finish` of the queue groups.
+pub fn targets_alike()
+    ensures { (k : Declarations) (l : Limits) (past : Past) → AllAllowed k l past → TargetsAlike k past }
+{}
+
+/// The operations that have begun, in the order of their numbers, are those that the history tells; and what a completion
+/// tells follows from them and the steps of the objects.
+pub fn begun_alike()
+    ensures { (k : Declarations) (l : Limits) (past : Past) → AllAllowed k l past → BegunAlike k past }
+{}
+
+/// Where nothing is due, the parts refuse the asks of operations and flags as the history does.
+pub fn refusals_alike()
+    ensures { (k : Declarations) (l : Limits) (past : Past) → Lawful k l past → RefusalsAlike k past }
 {}
