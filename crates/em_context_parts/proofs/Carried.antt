@@ -146,7 +146,7 @@ module _ (k : Declarations) (l : Limits) (P : Past → ℕ → Option Stamp → 
       by_list true later = items-append (OfItem now) (item past s) (came k past q c ss) (item-carried past now s a.0) later
       by_list false later = later
 
-  arrivals-carried : (past : Past) → AllAllowed k l past → (q c : ℕ) → AllItems (OfItem past) (arrivals k past q c)
+  pub arrivals-carried : (past : Past) → AllAllowed k l past → (q c : ℕ) → AllItems (OfItem past) (arrivals k past q c)
   arrivals-carried [] all q c = tt
   arrivals-carried (e ∷ past) all q c =
       subst (AllItems (OfItem (e ∷ past))) (sym (with-came k past q c (arrivals k past q c) (entering k past e)))

@@ -2,7 +2,7 @@
 use Rattle.std.proofs.Common.{◌≡◌, ℕ, zero, suc, ◌+◌, ◌-◌, ◌≤◌, ◌<◌, ◌==◌, ◌||◌, Bool, true, false, List, [], ◌∷◌, ◌++◌, map, length, take, drop, Option, Some, None, if◌then◌else◌, arith, refl, ap, sym, ◌∙◌, subst}
 use Rattle.std.specs.Prelude.{nat_le}
 use Rattle.std.specs.List.{list_any}
-use Rattle.std.proofs.lemmas.Bool.{eq-eqb, or_right, false_from_ne_true}
+use Rattle.std.proofs.lemmas.Bool.{eq-eqb, false_from_ne_true}
 use Rattle.std.proofs.lemmas.List.{take-map}
 use Rattle.std.proofs.Math.Seq.{take-length}
 use Rattle.em_log.specs.declared.declarations.Declarations.{Declarations}
@@ -29,23 +29,12 @@ use Rattle.em_order.specs.Tickets.{open_ticket}
 use Rattle.em_order.specs.Sends.{enters, due, begins_with, is_held_back}
 use Rattle.em_context_parts.specs.OrderSteps.{item_of, released_steps, finished_steps, let_in_count, order_after, order_steps}
 use Rattle.em_context_parts.specs.OrderAlike.{IsWaitingForOrder}
+use Rattle.em_context_parts.proofs.Lists.{any-left, any-right}
 use Rattle.em_context_parts.proofs.OpenTickets.{IsFitting, AreFitting}
 use Rattle.em_context_parts.proofs.Tickets.{same-open, same-released}
 use Rattle.em_context_parts.proofs.LetIn.{IsOrdered, open-ordered, finished-due, releases-due}
 
 -- lists
-
-any-left : (p : LogSent → Bool) (xs ys : List LogSent) → list_any p xs ≡ true → list_any p (xs ++ ys) ≡ true
-any-left p [] ys h = absurd cc
-any-left p (x ∷ xs) ys h = by_test (p x) h (any-left p xs ys)
-  where
-    by_test : (b : Bool) → (b || list_any p xs) ≡ true → (list_any p xs ≡ true → list_any p (xs ++ ys) ≡ true) → (b || list_any p (xs ++ ys)) ≡ true
-    by_test true h later = refl
-    by_test false h later = later h
-
-any-right : (p : LogSent → Bool) (xs ys : List LogSent) → list_any p ys ≡ true → list_any p (xs ++ ys) ≡ true
-any-right p [] ys h = h
-any-right p (x ∷ xs) ys h = or_right (p x) (list_any p (xs ++ ys)) (any-right p xs ys h)
 
 any-range : (p : LogSent → Bool) (past : Past) (q m a n : ℕ) → list_any p (sends_under past q m) ≡ true → a ≤ m → m < a + n
     → list_any p (sends_under_all past q (numbers_from a n)) ≡ true

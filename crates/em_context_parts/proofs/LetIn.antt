@@ -14,7 +14,7 @@ use Rattle.em_order.specs.Steps.{OrderStep, Finished}
 use Rattle.em_order.specs.Tickets.{released}
 use Rattle.em_order.specs.Sends.{sent_under, let_in, let_in_by, due}
 use Rattle.em_arrivals.proofs.Lists.{drop-more}
-use Rattle.em_context_parts.specs.OrderSteps.{item_of, released_steps, finished_steps, order_after, order_steps}
+use Rattle.em_context_parts.specs.OrderSteps.{item_of, released_steps, finished_steps, let_in_count, order_after, order_steps}
 use Rattle.em_context_parts.proofs.OpenTickets.{drawn-if, IsFitting, AreFitting}
 use Rattle.em_context_parts.proofs.Tickets.{ends-sent, drawn-takes, same-open, same-ended, same-released}
 
@@ -113,15 +113,20 @@ module _ (k : Declarations) where
       releases-due n (Finished c ∷ s)
       ∙ (ap (λ l. drop n (l ++ let_in s c)) none ∙ (ap (λ m. drop m (let_in s c)) (sym len) ∙ drop-length (let_in s c)))
 
+  let_in-length : (past : Past) (c : ℕ) (w : What) → AreFitting k past
+      → ((q : ℕ) → log.released (entry_by c w ∷ past) q ≡ run_from (log.takes past q) 0 (with_number q (log.open_ticket past c) (log.ended past q)))
+      → length (let_in (order_steps past) c) ≡ let_in_count past c w
+  let_in-length past c w fit after =
+      let ls = log.let_in past (entry_by c w ∷ past) (log.open_ticket past c) in
+      ap length (same-let_in past (entry_by c w ∷ past) fit c after) ∙ length-map ls item_of
+
   due-more : (past : Past) (c : ℕ) (w : What) → AreFitting k past → due (order_steps past) ≡ [] → due (order_after past c w (order_steps past)) ≡ []
   due-more past c (What.Take r n (Some t)) fit none = none
   due-more past c (What.Take r n None) fit none = none
   due-more past c What.EndOrdered fit none =
-      ends-due c (log.open_ticket past c) _ (order_steps past) none
-      (ap length (same-let_in past (entry_by c What.EndOrdered ∷ past) fit c (λ q. refl)) ∙ length-map (log.let_in past (entry_by c What.EndOrdered ∷ past) (log.open_ticket past c)) item_of)
+      ends-due c (log.open_ticket past c) _ (order_steps past) none (let_in-length past c What.EndOrdered fit (λ q. refl))
   due-more past c (What.End lost cells) fit none =
-      ends-due c (log.open_ticket past c) _ (order_steps past) none
-      (ap length (same-let_in past (entry_by c (What.End lost cells) ∷ past) fit c (λ q. refl)) ∙ length-map (log.let_in past (entry_by c (What.End lost cells) ∷ past) (log.open_ticket past c)) item_of)
+      ends-due c (log.open_ticket past c) _ (order_steps past) none (let_in-length past c (What.End lost cells) fit (λ q. refl))
   due-more past c (What.Send h r t s) fit none = none
   due-more past c w fit none = none
 

@@ -5,8 +5,16 @@ pub mod AtomicCells
 pub mod OpenTickets
 pub mod Tickets
 pub mod LetIn
+pub mod Lists
 pub mod HeldSends
 pub mod Orders
 pub mod Carried
 pub mod SentStamps
+pub mod StampsCome
+pub mod CountsLeft
+pub mod Egroups
+pub mod Sums
+pub mod Members
+pub mod OpenMembers
+pub mod EgroupRefusals
 pub mod Untouched

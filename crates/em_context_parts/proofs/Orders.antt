@@ -11,7 +11,7 @@ use Rattle.em_order.specs.Sends.{enters}
 use Rattle.em_context_parts.specs.OrderSteps.{order_steps}
 use Rattle.em_context_parts.specs.OrderAlike.{TicketsOwned, LetsIn, OrdersAlike}
 use Rattle.em_context_parts.proofs.OpenTickets.{owned, received, unticketed, sent-under, AreFitting, all-fitting}
-use Rattle.em_context_parts.proofs.Tickets.{drawn-takes, same-open, same-released}
+use Rattle.em_context_parts.proofs.Tickets.{drawn-takes, takes-few, same-open, same-released}
 use Rattle.em_context_parts.proofs.LetIn.{open-ordered, same-let_in, rest-due, none-due}
 use Rattle.em_context_parts.proofs.HeldSends.{same-enters, held-waits}
 
@@ -37,6 +37,7 @@ orders-alike k l past all =
     record {
       ticket = same-open k past fit;
       drawn = λ q ordered. drawn-takes k q ordered past fit;
+      few = takes-few past;
       released = same-released k past fit;
       enters = λ c. ap (enters (order_steps past)) (same-open k past fit c) ∙ same-enters k past fit (log.open_ticket past c) (open-ordered k past fit c);
       ended = λ c lost cells. lets-in k past fit c (What.End lost cells) (λ q. refl);

@@ -1,5 +1,5 @@
 -- By the steps of a history the tickets that are drawn, open and ended are those of the history.
-use Rattle.std.proofs.Common.{◌≡◌, ℕ, zero, suc, ◌==◌, Bool, true, false, List, [], ◌∷◌, Option, Some, None, if◌then◌else◌, IsTrue, refl, ap, sym, ◌∙◌, subst}
+use Rattle.std.proofs.Common.{◌≡◌, ℕ, zero, suc, ◌≤◌, ◌==◌, Bool, true, false, List, [], ◌∷◌, Option, Some, None, if◌then◌else◌, IsTrue, length, arith, refl, ap, sym, ◌∙◌, subst}
 use Rattle.std.proofs.lemmas.Bool.{eqb-true}
 use Rattle.em_log.specs.declared.declarations.Declarations.{Declarations}
 use Rattle.em_log.specs.declared.entry.What.{What}
@@ -65,7 +65,8 @@ module _ (k : Declarations) where
   -- tickets drawn
 
   module _ (q : ℕ) (ordered : IsTrue (is_ordered (kind_of k q))) where
-    unticketed : (past : Past) (r : ℕ) → ◌≡◌ {A = Option ℕ} None (ticket_drawn k past r) → (b : Bool) → (r == q) ≡ b → log.takes past q ≡ (if b then suc (log.takes past q) else log.takes past q)
+    unticketed : (past : Past) (r : ℕ) → ◌≡◌ {A = Option ℕ} None (ticket_drawn k past r) → (b : Bool) → (r == q) ≡ b
+        → log.takes past q ≡ (if b then suc (log.takes past q) else log.takes past q)
     unticketed past r fits true e =
         absurd (drawn-none (is_ordered (kind_of k r)) (log.takes past r) fits (subst (λ j. IsTrue (is_ordered (kind_of k j))) (sym (eqb-true r q e)) ordered))
     unticketed past r fits false e = refl
@@ -127,3 +128,16 @@ module _ (k : Declarations) where
 
   pub same-released : (past : Past) → AreFitting k past → (q : ℕ) → IsTrue (is_ordered (kind_of k q)) → released (order_steps past) q ≡ log.released past q
   same-released past fit q ordered = (λ i. run_from (drawn-takes q ordered past fit i) 0 (same-ended past fit q i))
+
+-- no more tickets of a queue are drawn than there are entries
+pub takes-few : (past : Past) (q : ℕ) → log.takes past q ≤ length past
+takes-few [] q = omega arith
+takes-few (e ∷ past) q = next e.what (takes-few past q)
+  where
+    next : (w : What) → log.takes past q ≤ length past → log.takes_after q w (log.takes past q) ≤ suc (length past)
+    next (What.Take r n t) few = by_test (r.0 == q)
+      where
+        by_test : (b : Bool) → (if b then suc (log.takes past q) else log.takes past q) ≤ suc (length past)
+        by_test true = omega (arith, few)
+        by_test false = omega (arith, few)
+    next w few = omega (arith, few)

@@ -3,3 +3,6 @@ pub mod AtomicAlike
 pub mod OrderSteps
 pub mod OrderAlike
 pub mod SentStamps
+pub mod EgroupSteps
+pub mod Memberships
+pub mod EgroupAlike

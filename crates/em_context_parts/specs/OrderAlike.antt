@@ -1,5 +1,5 @@
 -- What the steps of the ordered queues tell as the history does.
-use Rattle.std.specs.Prelude.{ℕ, ◌≡◌, true, false, [], ◌∷◌, map, drop, Option, Some, None, IsTrue}
+use Rattle.std.specs.Prelude.{ℕ, ◌≡◌, ◌≤◌, length, true, false, [], ◌∷◌, map, drop, Option, Some, None, IsTrue}
 use Rattle.em_log.specs.declared.declarations.Declarations.{Declarations}
 use Rattle.em_log.specs.declared.entry.What.{What}
 use Rattle.em_log.specs.declared.ids.Cells.{Cells}
@@ -49,6 +49,8 @@ pub record IsWaitingForOrder (past : Past) (i : ℕ) : Type 0 where
 pub record OrdersAlike (k : Declarations) (past : Past) : Type 0 where
   pub ticket : (c : ℕ) → part.open_ticket (order_steps past) c ≡ log.open_ticket past c
   pub drawn : (q : ℕ) → IsTrue (is_ordered (kind_of k q)) → part.drawn (order_steps past) q ≡ log.takes past q
+  -- no more tickets are drawn than there are entries
+  pub few : (q : ℕ) → log.takes past q ≤ length past
   pub released : (q : ℕ) → IsTrue (is_ordered (kind_of k q)) → part.released (order_steps past) q ≡ log.released past q
   pub enters : (c : ℕ) → sends.enters (order_steps past) (part.open_ticket (order_steps past) c) ≡ log.enters past (log.open_ticket past c)
   pub ended : (c lost : ℕ) (cells : Option Cells) → LetsIn past c (What.End lost cells)
