@@ -8,7 +8,7 @@ use Rattle.em_log.specs.History.{Past}
 use Rattle.em_log.specs.Lawful.{AllAllowed}
 use Rattle.em_laws.proofs.Spent.{usable, spending-kept, spends-now, notes-spent, applied-spent}
 use Rattle.em_context_parts.specs.SentStamps.{IsSentWith, StampsKept}
-use Rattle.em_context_parts.proofs.Carried.{IsCarried, sends-carried, waiting-carried, taken-carried}
+use Rattle.em_context_parts.proofs.Carried.{IsCarried, sends-carried, let-in-carried, waiting-carried, taken-carried}
 
 sent-with : (k : Declarations) (l : Limits) → IsCarried k l IsSentWith
 sent-with k l = record {
@@ -31,6 +31,7 @@ sent-with k l = record {
 pub stamps-kept : (k : Declarations) (l : Limits) (past : Past) → AllAllowed k l past → StampsKept k past
 stamps-kept k l past all = record {
   sent = sends-carried k l IsSentWith (sent-with k l) past all;
+  let_in = λ now t. let-in-carried k l IsSentWith (sent-with k l) past now all t;
   waiting = waiting-carried k l IsSentWith (sent-with k l) past all;
   taken = taken-carried k l IsSentWith (sent-with k l) past all;
 }

@@ -6,7 +6,7 @@ use Rattle.em_log.specs.declared.entry.What.{What}
 use Rattle.em_log.specs.declared.ids.Stamp.{Stamp}
 use Rattle.em_log.specs.History.{Past}
 use Rattle.em_log.specs.Handles.{Spending, spending}
-use Rattle.em_log.specs.Order.{sends_under}
+use Rattle.em_log.specs.Order.{Ticket, sends_under, let_in}
 use Rattle.em_log.specs.Arrivals.{Item}
 use Rattle.em_log.specs.Places.{waiting, taken}
 use Rattle.em_arrivals.proofs.Lists.{AllSent}
@@ -29,5 +29,7 @@ pub record IsSentWith (past : Past) (h : ℕ) (s : Option Stamp) : Type 0 where
 
 pub record StampsKept (k : Declarations) (past : Past) : Type 0 where
   pub sent : (q m : ℕ) → AllSent (λ s. IsSentWith past s.handle s.stamp) (sends_under past q m)
+  -- so too what the end of a ticket lets in
+  pub let_in : (now : Past) (t : Option Ticket) → AllSent (λ s. IsSentWith past s.handle s.stamp) (let_in past now t)
   pub waiting : (q c : ℕ) → AllItems (λ x. IsSentWith past x.handle x.stamp) (waiting k past q c)
   pub taken : (c : ℕ) → AllItems (λ x. IsSentWith past x.handle x.stamp) (taken k past c)
