@@ -1,0 +1,5 @@
+pub mod Marked
+pub mod SharedDesks
+pub mod Passes
+pub mod Calls
+pub mod Joins
