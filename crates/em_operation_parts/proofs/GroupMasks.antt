@@ -1,5 +1,5 @@
 -- The masks of the steps of queue groups are those of the history.
-use Rattle.std.proofs.Common.{◌≡◌, ℕ, ◌==◌, false, List, [], ◌∷◌, Option, Some, None, if◌then◌else◌, refl, sym, subst, ap, ◌∙◌}
+use Rattle.std.proofs.Common.{◌≡◌, ℕ, ◌==◌, true, false, List, [], ◌∷◌, Option, Some, None, if◌then◌else◌, refl, sym, subst, ap, ◌∙◌}
 use Rattle.std.specs.Option.{option_map_or}
 use Rattle.em_log.specs.declared.declarations.Declarations.{Declarations}
 use Rattle.em_log.specs.declared.entry.Begun.{Begun}
@@ -7,6 +7,8 @@ use Rattle.em_log.specs.declared.entry.What.{What}
 use Rattle.em_log.specs.declared.ids.GroupId.{GroupId}
 use Rattle.em_log.specs.declared.ids.Limits.{Limits}
 use Rattle.em_log.specs.History.{Past}
+use Rattle.em_log.specs.Declarations.{group_of}
+use Rattle.em_log.specs.Eligible.{has_core}
 use Rattle.em_log.specs.Lawful.{AllAllowed}
 use Rattle.em_log.specs.Operations.{Operation, operation}
 use Rattle.em_log.specs.States.{within_change}
@@ -14,7 +16,7 @@ use Rattle.em_log.specs.States as log
 use Rattle.em_moments.proofs.Moments.{Moment, allowed-moment}
 use Rattle.em_laws.proofs.Cores.{Compared, Same, Other, compared}
 use Rattle.em_groups.specs.Steps.{GroupStep}
-use Rattle.em_groups.specs.Masks.{change, mask, or_stays}
+use Rattle.em_groups.specs.Masks.{change, mask, effective, or_stays}
 use Rattle.em_operation_parts.specs.GroupSteps.{begun_steps, done_steps, group_after, group_steps, touches_groups}
 use Rattle.em_operation_parts.specs.GroupsAlike.{GroupsAlike}
 use Rattle.em_operation_parts.proofs.PendingTargets.{IsMarked, done-marked_before}
@@ -88,12 +90,21 @@ module _ (k : Declarations) where
   same-mask l (e ∷ past) all g =
       mask-after l past e.core.0 e.what g all.1 (allowed-moment k l past e all.1 all.0) ∙ ap (log.mask_after past g e.what) (same-mask l past all.1 g)
 
+pub same-effective : (k : Declarations) (l : Limits) (past : Past) → AllAllowed k l past → (g : ℕ) → effective k (group_steps past) g ≡ log.effective k past g
+same-effective k l past all g = (λ i. within_change (same-mask k l past all g i) (same-change past g i))
+
 pub groups-alike : (k : Declarations) (l : Limits) (past : Past) → AllAllowed k l past → GroupsAlike k past
 groups-alike k l past all = record {
   mask = same-mask k l past all;
   change = same-change past;
-  effective = λ g. (λ i. within_change (same-mask k l past all g i) (same-change past g i));
+  effective = same-effective k l past all;
+  in_group = λ c q. by_group c (group_of k q);
 }
+  where
+    by_group : (c : ℕ) (o : Option ℕ)
+        → option_map_or (λ g. has_core (effective k (group_steps past) g) c) o true ≡ option_map_or (λ g. has_core (log.effective k past g) c) o true
+    by_group c None = refl
+    by_group c (Some g) = ap (λ m. has_core m c) (same-effective k l past all g)
 
 pub groups-untouched : (past : Past) (w : What) (steps : List GroupStep) → touches_groups w ≡ false → group_after past w steps ≡ steps
 groups-untouched past (What.Begin op (Begun.Modify g m) notes) steps is = absurd cc

@@ -1,7 +1,7 @@
 -- Where nothing is due, no operation is pending exactly where no core owes a step.
 use Rattle.std.proofs.Common.{◌≡◌, ℕ, zero, suc, ◌+◌, ◌<◌, ◌≤◌, Bool, true, false, not, ◌&&◌, List, [], ◌∷◌, Option, Some, None, is_none, is_some, if◌then◌else◌, refl, sym, ◌∙◌, subst, ap, arith}
 use Rattle.std.specs.List.{list_all}
-use Rattle.std.specs.Option.{option_or, option_and_then}
+use Rattle.std.specs.Option.{option_or}
 use Rattle.em_log.specs.declared.declarations.Declarations.{Declarations}
 use Rattle.em_log.specs.declared.entry.What.{What}
 use Rattle.em_log.specs.declared.ids.Limits.{Limits}
@@ -16,8 +16,8 @@ use Rattle.em_laws.proofs.Begun.{none-pending, numbered}
 use Rattle.em_laws.proofs.Cores.{none-some, Compared, Same, Other, compared}
 use Rattle.em_bounds.proofs.Pending.{is-owed}
 use Rattle.em_acks.specs.Operations.{step}
-use Rattle.em_operation_parts.specs.AckSteps.{ack_steps, step_of}
-use Rattle.em_operation_parts.proofs.OwedSteps.{OwedEntry, AnEntry, owed-entry, first-entry, same-step}
+use Rattle.em_operation_parts.specs.AckSteps.{ack_steps}
+use Rattle.em_operation_parts.proofs.OwedSteps.{OwedEntry, AnEntry, owed-entry, same-owing}
 use Rattle.em_operation_parts.proofs.CompleteOperations.{same-bools, owed-undone}
 
 aimed-any : (past : Past) (n a w : ℕ) → log.first_pending past (λ job. true) (numbers_from a w) ≡ Some n
@@ -85,6 +85,12 @@ some-core : (k : Declarations) (l : Limits) (past : Past) (n : ℕ) → AllAllow
 some-core k l [] n all lt = absurd (omega (arith, lt))
 some-core k l (e ∷ past) n all lt = let core = all.0.core in omega (arith, core)
 
+none-as-some : {A B : Type 0} (o : Option A) (p : Option B) → is_some o ≡ is_some p → is_none o ≡ is_none p
+none-as-some None None is = refl
+none-as-some None (Some y) is = absurd cc
+none-as-some (Some x) None is = absurd cc
+none-as-some (Some x) (Some y) is = refl
+
 module _ (k : Declarations) (l : Limits) (past : Past) (lawful : Lawful k l past) where
   no-step : (c : ℕ) → c < k.cores → log.pending past (λ job. true) ≡ None → log.step k past c ≡ None
   no-step c lt none = by_step (log.step k past c) refl
@@ -106,14 +112,8 @@ module _ (k : Declarations) (l : Limits) (past : Past) (lawful : Lawful k l past
       let owed = is-owed k l past some lawful n o at (undone-none (log.done past n) undone) in
       (owed.0, owed.1, λ none. first-owes k past owed.0 n 0 (log.operations past) owed.2.0 (omega arith) (omega arith) owed.2.1 none)
 
-  unowing : (o : Option What) (n : ℕ) → OwedEntry past n o → is_none (option_and_then step_of o) ≡ is_none o
-  unowing None n entry = refl
-  unowing (Some w) n (AnEntry o p v at is step) = ap is_none step
-
-  same-owing : (c : ℕ) → is_none (step k.cores (ack_steps past) c) ≡ is_none (log.step k past c)
-  same-owing c =
-      let f = first-entry k l past lawful.each c (below (log.operations past)) in
-      ap is_none (same-step k l past lawful.each c) ∙ unowing (log.step k past c) f.0 f.1
+  same-none : (c : ℕ) → is_none (step k.cores (ack_steps past) c) ≡ is_none (log.step k past c)
+  same-none c = none-as-some (step k.cores (ack_steps past) c) (log.step k past c) (same-owing k l past lawful.each c)
 
   pub same-all_done : log.all_done past ≡ list_all (λ c. is_none (step k.cores (ack_steps past) c)) (below k.cores)
   same-all_done = same-bools _ _ owes_none (by_pending (log.pending past (λ job. true)) refl)
@@ -124,7 +124,7 @@ module _ (k : Declarations) (l : Limits) (past : Past) (lawful : Lawful k l past
       owes_none : is_none (log.pending past (λ job. true)) ≡ true → list_all owing (below k.cores) ≡ true
       owes_none done =
           all-numbers owing 0 k.cores
-          (λ c low lt. same-owing c ∙ ap is_none (no-step c (omega (arith, lt)) (is_none-none (log.pending past (λ job. true)) done)))
+          (λ c low lt. same-none c ∙ ap is_none (no-step c (omega (arith, lt)) (is_none-none (log.pending past (λ job. true)) done)))
 
       by_pending : (o : Option ℕ) → log.pending past (λ job. true) ≡ o → list_all owing (below k.cores) ≡ true → is_none o ≡ true
       by_pending None is idle = refl
@@ -132,4 +132,4 @@ module _ (k : Declarations) (l : Limits) (past : Past) (lawful : Lawful k l past
           let f = aimed-any past n 0 (log.operations past) is in
           let lt = f.1 in
           let owes = some-step n f.3.0 (some-core k l past n lawful.each (omega (arith, lt))) (omega (arith, lt)) f.3.1 f.2 in
-          absurd (owes.2 (is_none-none (log.step k past owes.0) (sym (same-owing owes.0) ∙ all-below owing owes.0 k.cores idle owes.1)))
+          absurd (owes.2 (is_none-none (log.step k past owes.0) (sym (same-none owes.0) ∙ all-below owing owes.0 k.cores idle owes.1)))

@@ -13,3 +13,4 @@ pub mod OpenSteps
 pub mod Targets
 pub mod BegunOperations
 pub mod Refusals
+pub mod Queues

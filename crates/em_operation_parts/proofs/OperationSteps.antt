@@ -1,5 +1,5 @@
 -- The operations of the steps of a history, and who has done his part, are those of the history.
-use Rattle.std.proofs.Common.{◌≡◌, ℕ, ◌==◌, Bool, true, false, List, [], ◌∷◌, Option, Some, if◌then◌else◌, refl, ap, sym, ◌∙◌}
+use Rattle.std.proofs.Common.{◌≡◌, ℕ, ◌==◌, Bool, true, false, List, [], ◌∷◌, length, Option, Some, if◌then◌else◌, refl, ap, sym, ◌∙◌}
 use Rattle.std.specs.List.{list_all}
 use Rattle.std.specs.Option.{option_map}
 use Rattle.em_log.specs.declared.declarations.Declarations.{Declarations}
@@ -15,7 +15,9 @@ use Rattle.em_log.specs.Operations.{last_if}
 use Rattle.em_log.specs.Operations as log
 use Rattle.em_moments.proofs.Moments.{Moment, allowed-moment}
 use Rattle.em_acks.specs.Steps.{AckStep}
-use Rattle.em_acks.specs.Operations.{operations, operation, global_done, acked, all_acked, last_acker}
+use Rattle.em_acks.specs.Operations.{operations, operation, global_done, acked, all_acked, not_acked, last_acker, left_after}
+use Rattle.em_acks.specs.declared.job.Left.{Left}
+use Rattle.em_operation_parts.specs.OperationsAlike.{is_last}
 use Rattle.em_operation_parts.specs.AckSteps.{job_of, target_of, operation_of, ack_after, ack_steps, touches_operations}
 
 -- operations
@@ -82,6 +84,13 @@ same-acked (e ∷ past) n = acked-after e.core.0 e.what (ack_steps past) n ∙ a
 module _ (k : Declarations) where
   pub same-all : (past : Past) (n : ℕ) → all_acked k.cores (ack_steps past) n ≡ log.all_acked k past n
   same-all past n = ap (λ those. list_all (has those) (below k.cores)) (same-acked past n)
+
+  pub same-last_left : (past : Past) (n : ℕ) → is_last (left_after k.cores (ack_steps past) n) ≡ log.all_acked k past n
+  same-last_left past n = by_all (all_acked k.cores (ack_steps past) n) (same-all past n)
+    where
+      by_all : (b : Bool) → b ≡ log.all_acked k past n → is_last (if b then Left.Last else Left.More (length (not_acked k.cores (ack_steps past) n))) ≡ log.all_acked k past n
+      by_all true is = is
+      by_all false is = is
 
   last-after : (now : Past) (c : ℕ) (w : What) (s : List AckStep) (n : ℕ) → all_acked k.cores (ack_after c w s) n ≡ log.all_acked k now n
       → last_acker k.cores (ack_after c w s) n ≡ log.last_acker_by k now n c w (last_acker k.cores s n)

@@ -4,8 +4,8 @@ use Rattle.em_log.specs.declared.ids.Limits.{Limits}
 use Rattle.em_log.specs.History.{Past}
 use Rattle.em_log.specs.Lawful.{AllAllowed}
 use Rattle.em_operation_parts.specs.OperationsAlike.{OperationsAlike}
-use Rattle.em_operation_parts.proofs.OperationSteps.{same-operations, same-operation, same-global, same-acked, same-all, same-last}
-use Rattle.em_operation_parts.proofs.OwedSteps.{same-owed, same-step, same-entry}
+use Rattle.em_operation_parts.proofs.OperationSteps.{same-operations, same-operation, same-global, same-acked, same-all, same-last, same-last_left}
+use Rattle.em_operation_parts.proofs.OwedSteps.{same-owed, same-step, same-entry, same-owing}
 use Rattle.em_operation_parts.proofs.DoneOperations.{same-done}
 
 pub operations-alike : (k : Declarations) (l : Limits) (past : Past) → AllAllowed k l past → OperationsAlike k past
@@ -19,5 +19,7 @@ operations-alike k l past all = record {
   owed = same-owed k l past all;
   step = same-step k l past all;
   entry = same-entry k l past all;
+  owes = same-owing k l past all;
+  last = same-last_left k past;
   done = same-done k l past all;
 }

@@ -1,5 +1,5 @@
 -- The steps that cores owe by the steps of operations are those that they owe by the history.
-use Rattle.std.proofs.Common.{◌≡◌, ℕ, ◌==◌, Bool, true, false, not, List, [], ◌∷◌, Option, Some, None, refl, ap, sym, ◌∙◌}
+use Rattle.std.proofs.Common.{◌≡◌, ℕ, ◌==◌, Bool, true, false, not, List, [], ◌∷◌, Option, Some, None, is_some, refl, ap, sym, ◌∙◌}
 use Rattle.std.specs.Option.{option_map, option_or, option_and_then}
 use Rattle.em_log.specs.declared.declarations.Declarations.{Declarations}
 use Rattle.em_log.specs.declared.entry.Begun.{Begun}
@@ -136,7 +136,7 @@ module _ (k : Declarations) (l : Limits) (past : Past) (all : AllAllowed k l pas
   pub same-step : step k.cores (ack_steps past) c ≡ option_and_then step_of (log.step k past c)
   same-step = ap (λ m. first_owed k.cores (ack_steps past) c (below m)) (same-operations past) ∙ first-step (below (log.operations past))
 
-  pub first-entry : (ns : List ℕ) → (n : ℕ) × OwedEntry past n (log.first_owed k past c ns)
+  first-entry : (ns : List ℕ) → (n : ℕ) × OwedEntry past n (log.first_owed k past c ns)
   first-entry [] = (0, NoEntry)
   first-entry (n ∷ ns) = by_owed (log.owed_to k past c n) (owed-entry k past c n) (first-entry ns)
     where
@@ -149,3 +149,11 @@ module _ (k : Declarations) (l : Limits) (past : Past) (all : AllAllowed k l pas
   same-entry =
       let f = first-entry (below (log.operations past)) in
       entry-back past f.0 (log.step k past c) f.1 ∙ ap (option_and_then (entry_for past)) (sym same-step)
+
+  owing-by : (p : Option (OpId × Phase)) (w : Option What) → p ≡ option_and_then step_of w → w ≡ option_and_then (entry_for past) p → is_some p ≡ is_some w
+  owing-by None w is back = sym (ap is_some back)
+  owing-by (Some r) None is back = ap is_some is
+  owing-by (Some r) (Some w) is back = refl
+
+  pub same-owing : is_some (step k.cores (ack_steps past) c) ≡ is_some (log.step k past c)
+  same-owing = owing-by (step k.cores (ack_steps past) c) (log.step k past c) same-step same-entry

@@ -3,6 +3,7 @@ pub mod ObjectsAlike
 pub mod AckSteps
 pub mod OperationsAlike
 pub mod GroupSteps
+pub mod Queues
 pub mod GroupsAlike
 pub mod Targets
 pub mod BegunOperations

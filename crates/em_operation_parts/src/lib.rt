@@ -2,30 +2,37 @@
 //! tells.
 #![tactic(auto)]
 
-ghost use Rattle.std.specs.Prelude.{ℕ, ◌≡◌, ◌<◌, false, List, Some};
-ghost use Rattle.em_log.specs.declared.declarations.Declarations.{Declarations};
-ghost use Rattle.em_log.specs.declared.entry.What.{What};
-ghost use Rattle.em_log.specs.declared.ids.Limits.{Limits};
+ghost use Rattle.std.specs.Prelude.{ℕ, ◌≡◌, ◌<◌, ◌∷◌, false, List, Some, if◌then◌else◌};
+ghost use Rattle.em_log.specs.Contexts.{context};
+ghost use Rattle.em_log.specs.Declarations.{object_of, group_of, is_number};
+ghost use Rattle.em_log.specs.Eligible.{has_core};
 ghost use Rattle.em_log.specs.History.{Past};
 ghost use Rattle.em_log.specs.Lawful.{AllAllowed, Lawful};
-ghost use Rattle.em_objects.specs.Steps.{ObjectStep};
-ghost use Rattle.em_acks.specs.Steps.{AckStep};
+ghost use Rattle.em_log.specs.States.{is_running};
+ghost use Rattle.em_log.specs.declared.declarations.Declarations.{Declarations};
+ghost use Rattle.em_log.specs.declared.entry.Body.{Body};
+ghost use Rattle.em_log.specs.declared.entry.What.{What};
+ghost use Rattle.em_log.specs.declared.ids.EoState.{EoState};
+ghost use Rattle.em_log.specs.declared.ids.Limits.{Limits};
+ghost use Rattle.em_log.specs.declared.ids.OpId.{OpId};
+ghost use Rattle.em_objects.specs.Queues.{runs};
+ghost use Rattle.em_objects.specs.Steps.{ObjectStep, Moved};
 ghost use Rattle.em_acks.specs.Stands.{Stands as AckStands};
 ghost use Rattle.em_acks.specs.State.{AckState, owed_at};
+ghost use Rattle.em_acks.specs.Steps.{AckStep};
 ghost use Rattle.em_acks.specs.declared.job.Phase.{Phase};
-ghost use Rattle.em_log.specs.declared.entry.Body.{Body};
-ghost use Rattle.em_log.specs.declared.ids.OpId.{OpId};
-ghost use Rattle.em_log.specs.Contexts.{context};
+ghost use Rattle.em_groups.specs.Masks.{effective};
 ghost use Rattle.em_groups.specs.Steps.{GroupStep};
+ghost use Rattle.em_operation_parts.specs.AckSteps.{ack_after, ack_steps, touches_operations, step_in};
+ghost use Rattle.em_operation_parts.specs.BegunOperations.{BegunAlike};
 ghost use Rattle.em_operation_parts.specs.GroupSteps.{group_after, touches_groups};
 ghost use Rattle.em_operation_parts.specs.GroupsAlike.{GroupsAlike};
 ghost use Rattle.em_operation_parts.specs.ObjectSteps.{object_after, touches_objects};
 ghost use Rattle.em_operation_parts.specs.ObjectsAlike.{ObjectsAlike};
-ghost use Rattle.em_operation_parts.specs.AckSteps.{ack_after, ack_steps, touches_operations, step_in};
 ghost use Rattle.em_operation_parts.specs.OperationsAlike.{OperationsAlike, PendingAlike};
-ghost use Rattle.em_operation_parts.specs.Targets.{TargetsAlike};
-ghost use Rattle.em_operation_parts.specs.BegunOperations.{BegunAlike};
+ghost use Rattle.em_operation_parts.specs.Queues.{in_group, group_of_step};
 ghost use Rattle.em_operation_parts.specs.Refusals.{RefusalsAlike};
+ghost use Rattle.em_operation_parts.specs.Targets.{TargetsAlike};
 
 /// The states of a history's objects, the flags of its queues, and which queues are closed and which deliver, are those of
 /// its steps of the objects. This holds of every history.
@@ -84,4 +91,14 @@ pub fn begun_alike()
 /// Where nothing is due, the parts refuse the asks of operations and flags as the history does.
 pub fn refusals_alike()
     ensures { (k : Declarations) (l : Limits) (past : Past) → Lawful k l past → RefusalsAlike k past }
+{}
+
+/// A move of an object concerns its queues alone.
+pub fn a_move_concerns_the_queues_of_an_object()
+    ensures { (k : Declarations) (steps : List ObjectStep) (x : ℕ) (to : EoState) (q : ℕ) → runs k (Moved x to ∷ steps) q ≡ (if is_number x (object_of k q) then is_running to else runs k steps q) }
+{}
+
+/// A step of a queue group concerns its queues alone: each core is in the mask in force then, or not.
+pub fn a_change_concerns_the_queues_of_a_group()
+    ensures { (k : Declarations) (steps : List GroupStep) (s : GroupStep) (c : ℕ) (q : ℕ) → in_group k (s ∷ steps) c q ≡ (if is_number (group_of_step s) (group_of k q) then has_core (effective k (s ∷ steps) (group_of_step s)) c else in_group k steps c q) }
 {}
