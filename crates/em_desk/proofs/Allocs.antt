@@ -79,7 +79,6 @@ alloc-asked p c kind a words e may ok is =
         begun = λ n c o. refl;
         started = λ n. refl;
         pays = omega arith;
-        served = λ c t. refl;
       };
     }
 

@@ -16,7 +16,7 @@ use Rattle.em_log.specs.Handles.{rule}
 use Rattle.em_log.specs.Places.{kept}
 use Rattle.em_log.specs.Leads.{refusal, own, lead, refused_or, call_of, scope}
 use Rattle.em_log.specs.Lawful.{is_placed}
-use Rattle.em_log.specs.Allowance.{cost_of_ask, cost_of_lead}
+use Rattle.em_log.specs.Allowance.{cost_of_ask}
 use Rattle.em_log.specs.Answers.{block}
 use Rattle.em_moments.proofs.Asked.{asks-open}
 use Rattle.em_bounds.specs.Paid.{pays}
@@ -24,7 +24,11 @@ use Rattle.em_pool.specs.declared.place.Spend.{Spend}
 use Rattle.em_pool.specs.Steps.{PoolStep, Spent}
 use Rattle.em_pool.specs.Handles as pool
 use Rattle.em_pool.specs.Stands as pools
+use Rattle.em_queues.specs.Steps.{QueueStep}
+use Rattle.em_queues.specs.State.{shape}
+use Rattle.em_queues.specs.Stands as queues
 use Rattle.em_parts.specs.PoolSteps.{pool_steps, direct}
+use Rattle.em_parts.specs.QueueSteps.{queue_steps, served_steps}
 use Rattle.em_parts.proofs.Spendings.{same-rule}
 use Rattle.em_desk.specs.declared.acts.Act.{Act}
 use Rattle.em_desk.specs.declared.outcome.Outcome.{Outcome}
@@ -35,7 +39,7 @@ use Rattle.em_desk.specs.Openings.{opening_at, opening_by, object_in}
 use Rattle.em_desk.specs.Served.{is_served_entry}
 use Rattle.em_desk.specs.Standing.{Stands, AreKept}
 use Rattle.em_desk.specs.State.{MayAsk, Adds, outcome_of}
-use Rattle.em_desk.proofs.Begun.{pushed, IsCause, IsAsked, asked-begun, at-rest, settled-pools, block-none, block-acts}
+use Rattle.em_desk.proofs.Begun.{pushed, IsCause, IsAsked, asked-begun, at-rest, settled-pools, settled-queues, block-none, block-acts}
 
 abbrev pub steps_of : Parts → List PoolStep
 steps_of p = pool_steps p.declarations p.history.past
@@ -54,12 +58,27 @@ fault-lead k past c a f refused = sym (ap (λ (r : Option Fault). refused_or k p
 
 -- an ask that leaves nothing to do
 
-pub settled : (p q : Parts) (c : ℕ) (a : Ask) (w : What) → Stands p → IsAsked p c a w → IsTrue (is_served_entry p.declarations w)
+pub settled-with : (p q : Parts) (c : ℕ) (a : Ask) (w : What) → Stands p → IsAsked p c a w → IsTrue (is_served_entry p.declarations w)
     → IsCause p.declarations p.history.past c w [] → pools.Stands q.pools (direct p.declarations p.history.past c w (steps_of p)) → q.pools.pools ≡ p.pools.pools
-    → p.pools.spare ≤ q.pools.spare + cost_of_lead w → AreKept p.declarations (entry_by c w ∷ p.history.past) q.kept
+    → p.pools.spare ≤ q.pools.spare + pays w
+    → queues.Stands p.declarations q.queues (served_steps c w (queue_steps p.declarations p.history.past)) → shape q.queues ≡ shape p.queues
+    → AreKept p.declarations (entry_by c w ∷ p.history.past) q.kept
+    → Stands (record p { history = pushed p c w; pools = q.pools; queues = q.queues; kept = q.kept })
+settled-with p q c a w s e served cause stands shapes spare lists same kept =
+    at-rest (record p { history = pushed p c w; pools = q.pools; queues = q.queues; kept = q.kept }) c
+    (asked-begun p q c a w [] s e served cause tt stands shapes spare lists same tt kept)
+
+-- an entry that takes nothing out of a queue
+pub record TakesNothing (w : What) : Type 0 where
+  pub queues : (c : ℕ) (t : List QueueStep) → served_steps c w t ≡ t
+
+pub settled : (p q : Parts) (c : ℕ) (a : Ask) (w : What) → Stands p → IsAsked p c a w → IsTrue (is_served_entry p.declarations w) → TakesNothing w
+    → IsCause p.declarations p.history.past c w [] → pools.Stands q.pools (direct p.declarations p.history.past c w (steps_of p)) → q.pools.pools ≡ p.pools.pools
+    → p.pools.spare ≤ q.pools.spare + pays w → AreKept p.declarations (entry_by c w ∷ p.history.past) q.kept
     → Stands (record p { history = pushed p c w; pools = q.pools; kept = q.kept })
-settled p q c a w s e served cause stands shapes spare kept =
-    at-rest (record p { history = pushed p c w; pools = q.pools; kept = q.kept }) c (asked-begun p q c a w [] s e served cause tt stands shapes spare tt kept)
+settled p q c a w s e served none cause stands shapes spare kept =
+    settled-with p (record q { queues = p.queues }) c a w s e served cause stands shapes spare
+    (subst (queues.Stands p.declarations p.queues) (sym (none.queues c (queue_steps p.declarations p.history.past))) (settled-queues p 0 s)) refl kept
 
 pub adds-none : (p q : Parts) (c : ℕ) (a : Ask) (w : What) (o : Outcome) → q.history.past ≡ entry_by c w ∷ p.history.past
     → IsCause p.declarations p.history.past c w [] → w ≡ lead p.declarations p.history.past c a → o ≡ outcome_of w
@@ -138,7 +157,6 @@ refused-asked p c a asked f x may costs refused call is =
         begun = λ n c o. refl;
         started = λ n. refl;
         pays = fault-pays asked f x;
-        served = λ c t. refl;
       };
     }
 
@@ -170,7 +188,6 @@ free-asked p c w may ok =
         begun = λ n c o. refl;
         started = λ n. refl;
         pays = omega arith;
-        served = λ c t. refl;
       };
     }
 
@@ -192,7 +209,6 @@ say-asked p c v may =
         begun = λ n c o. refl;
         started = λ n. refl;
         pays = omega arith;
-        served = λ c t. refl;
       };
     }
 

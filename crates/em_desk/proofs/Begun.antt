@@ -30,9 +30,10 @@ use Rattle.em_desk.specs.Histories.{HistoryState}
 use Rattle.em_desk.specs.Served.{is_served_entry}
 use Rattle.em_desk.specs.Acts.{said, pool_acts, queue_acts, AreReady}
 use Rattle.em_desk.specs.Openings.{opening_at, opening_of}
-use Rattle.em_desk.specs.Room.{needed, lefts, receive_cost}
+use Rattle.em_bounds.specs.Room.{needed, lefts}
+use Rattle.em_bounds.specs.Bound.{receive_need}
 use Rattle.em_desk.specs.Standing.{Standing, Stands, IsCore, AreKept}
-use Rattle.em_desk.proofs.Rooms.{lefts-lead}
+use Rattle.em_bounds.proofs.Room.{needed-lead}
 use Rattle.em_desk.proofs.Contexts.{opening-stays}
 
 -- the history with one entry more
@@ -63,8 +64,8 @@ pub record IsMade (p q : Parts) (c : ℕ) (w : What) (acts : List Act) : Type 0 
   pub started : q.started ≡ started (entry_by c w ∷ p.history.past)
   pub within : q.started ≤ p.limits.receives
   pub room : needed p.declarations (entry_by c w ∷ p.history.past) ≤ p.history.capacity
-  pub mintable : lefts p.declarations (entry_by c w ∷ p.history.past) p.declarations.cores ≤ q.pools.spare
-  pub bounded : needed p.declarations (entry_by c w ∷ p.history.past) ≤ receive_cost * (1 + q.started)
+  pub mintable : lefts p.declarations (entry_by c w ∷ p.history.past) ≤ q.pools.spare
+  pub bounded : needed p.declarations (entry_by c w ∷ p.history.past) ≤ receive_need * (1 + q.started)
 
 pub all-with : (p : Parts) (b c : ℕ) (w : What) → Standing p b [] → c < p.declarations.cores → Begins p.declarations p.limits p.history.past c w
     → AllAllowed p.declarations p.limits (entry_by c w ∷ p.history.past)
@@ -137,14 +138,13 @@ at-rest p b s =
 
 -- asks that leave their context open
 
--- an entry that leaves contexts, operations, receives and the lists of the queues
+-- an entry that leaves contexts, operations and receives
 pub record IsMild (w : What) : Type 0 where
   pub context : (o : Option What) → context_after w o ≡ o
   pub leads : (k : Declarations) (past : Past) (b : What) (ls : List Lead) → leads_after k past (Some b) w ls ≡ lead_here (due k past) past w ls
   pub begun : (n c : ℕ) (o : Option Operation) → begun_by n c w o ≡ o
   pub started : (n : ℕ) → started_after w n ≡ n
   pub pays : pays w ≤ cost_of_lead w
-  pub served : (c : ℕ) (t : List QueueStep) → served_steps c w t ≡ t
 
 -- an ask that may be made gives this entry, and has enough left for it
 pub record IsAsked (p : Parts) (c : ℕ) (a : Ask) (w : What) : Type 0 where
@@ -154,15 +154,11 @@ pub record IsAsked (p : Parts) (c : ℕ) (a : Ask) (w : What) : Type 0 where
   pub enough : cost_of_lead w ≤ left p.declarations p.history.past c
   pub mild : IsMild w
 
-pub asked-lefts : (p : Parts) (c : ℕ) (a : Ask) (w : What) → Stands p → IsAsked p c a w
-    → lefts p.declarations (entry_by c w ∷ p.history.past) p.declarations.cores + cost_of_lead w ≡ lefts p.declarations p.history.past p.declarations.cores
-asked-lefts p c a w s e =
-    let o = asks-open p.declarations p.history.past c a e.may in
-    lefts-lead p.declarations p.history.past c o.0 w e.core s.due o.1 e.mild.context (e.mild.leads p.declarations p.history.past o.0) e.enough
-
 asked-needed : (p : Parts) (c : ℕ) (a : Ask) (w : What) → Stands p → IsAsked p c a w
     → needed p.declarations (entry_by c w ∷ p.history.past) ≤ needed p.declarations p.history.past
-asked-needed p c a w s e = let sum = asked-lefts p c a w s e in let cheap = e.mild.pays in omega (arith, sum, cheap)
+asked-needed p c a w s e =
+    let o = asks-open p.declarations p.history.past c a e.may in
+    needed-lead p.declarations p.history.past c o.0 w e.core s.due o.1 e.mild.context (e.mild.leads p.declarations p.history.past o.0) e.enough e.mild.pays
 
 -- so the entry may be added
 pub record HasRoom (p : Parts) (w : What) : Type 0 where
@@ -179,22 +175,23 @@ pub asked-room : (p : Parts) (c : ℕ) (a : Ask) (w : What) → Stands p → IsA
 asked-room p c a w s e =
     has-room-by p c w (all-with p 0 c w s e.core (Asks a e.may e.gives)) (let less = asked-needed p c a w s e in let r = s.room in omega (arith, less, r))
 
--- where there was room for mintings, there is where the entry mints no more than it costs
+-- where there was room for mintings, there is where the entry mints no more than it pays
 pub asked-begun : (p q : Parts) (c : ℕ) (a : Ask) (w : What) (acts : List Act) → Stands p → IsAsked p c a w → IsTrue (is_served_entry p.declarations w)
     → IsCause p.declarations p.history.past c w acts → IsCore p.declarations c acts
     → pools.Stands q.pools (direct p.declarations p.history.past c w (pool_steps p.declarations p.history.past)) → q.pools.pools ≡ p.pools.pools
-    → p.pools.spare ≤ q.pools.spare + cost_of_lead w
-    → AreReady p.declarations (direct p.declarations p.history.past c w (pool_steps p.declarations p.history.past)) (queue_steps p.declarations p.history.past) acts
+    → p.pools.spare ≤ q.pools.spare + pays w
+    → queues.Stands p.declarations q.queues (served_steps c w (queue_steps p.declarations p.history.past)) → shape q.queues ≡ shape p.queues
+    → AreReady p.declarations (direct p.declarations p.history.past c w (pool_steps p.declarations p.history.past)) (served_steps c w (queue_steps p.declarations p.history.past)) acts
     → AreKept p.declarations (entry_by c w ∷ p.history.past) q.kept
-    → Standing (record p { history = pushed p c w; pools = q.pools; kept = q.kept }) c acts
-asked-begun p q c a w acts s e served cause core stands shapes spare ready kept =
-    begun p (record p { pools = q.pools; kept = q.kept }) 0 c w acts s e.core (Asks a e.may e.gives) served cause core
+    → Standing (record p { history = pushed p c w; pools = q.pools; queues = q.queues; kept = q.kept }) c acts
+asked-begun p q c a w acts s e served cause core stands shapes spare lists same ready kept =
+    begun p (record p { pools = q.pools; queues = q.queues; kept = q.kept }) 0 c w acts s e.core (Asks a e.may e.gives) served cause core
     (record {
       pools = stands;
       pool_shape = shapes;
-      queues = subst (queues.Stands p.declarations p.queues) (sym same) (settled-queues p 0 s);
-      queue_shape = refl;
-      ready = subst (λ (t : List QueueStep). AreReady p.declarations (direct p.declarations p.history.past c w (pool_steps p.declarations p.history.past)) t acts) (sym same) ready;
+      queues = lists;
+      queue_shape = same;
+      ready = ready;
       kept = kept;
       cores = refl;
       contexts = λ d lt. s.contexts d lt
@@ -202,16 +199,10 @@ asked-begun p q c a w acts s e served cause core stands shapes spare ready kept 
       started = s.started ∙ sym (e.mild.started (started p.history.past));
       within = s.within;
       room = let r = s.room in omega (arith, less, r);
-      mintable = let r = s.mintable in omega (arith, sum, r, spare);
+      mintable = let r = s.mintable in omega (arith, less, r, spare);
       bounded = let r = s.bounded in omega (arith, less, r);
     })
   where
-    same : served_steps c w (queue_steps p.declarations p.history.past) ≡ queue_steps p.declarations p.history.past
-    same = e.mild.served c (queue_steps p.declarations p.history.past)
-
-    sum : lefts p.declarations (entry_by c w ∷ p.history.past) p.declarations.cores + cost_of_lead w ≡ lefts p.declarations p.history.past p.declarations.cores
-    sum = asked-lefts p c a w s e
-
     less : needed p.declarations (entry_by c w ∷ p.history.past) ≤ needed p.declarations p.history.past
     less = asked-needed p c a w s e
 

@@ -40,7 +40,7 @@ pub built : (p : Parts) → IsFixed p → p.history.past ≡ [] → pools.Stands
     → p.kept.lists ≡ empty_lists (length p.declarations.running) → p.kept.room ≡ event_total p.declarations.pools
     → p.contexts.items ≡ replicate p.declarations.cores Opening.Closed → p.started ≡ 0 → Stands p
 built p fixed fresh pools shapes queues same lists room closed none =
-    let empty = lefts-none p.declarations p.declarations.cores in
+    let empty = lefts-none p.declarations in
     subst (λ (h : Past). Stands (record p { history = record p.history { past = h } })) (sym fresh)
     (record {
       fixed = record { graph = fixed.graph; limits = fixed.limits; cores = fixed.cores; allowed = fixed.allowed };

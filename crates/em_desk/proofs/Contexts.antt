@@ -10,7 +10,7 @@ use Rattle.em_log.specs.Contexts.{context, context_after, object_begun, object_i
 use Rattle.em_log.specs.Operations.{Operation, operation}
 use Rattle.em_laws.proofs.Cores.{Compared, Same, Other, compared}
 use Rattle.em_desk.specs.Openings.{opening_of, opening_by}
-use Rattle.em_desk.proofs.Rooms.{context-stays}
+use Rattle.em_bounds.proofs.Room.{context-stays}
 
 object-same : (k : Declarations) (past now : Past) → ((n : ℕ) → operation now n ≡ operation past n) → (o : Option What)
     → object_begun k now o ≡ object_begun k past o

@@ -25,14 +25,14 @@ use Rattle.em_parts.proofs.Holdings.{same-held}
 use Rattle.em_desk.specs.declared.opening.Opening.{Opening}
 use Rattle.em_desk.specs.declared.parts.Parts.{Parts}
 use Rattle.em_desk.specs.Openings.{opening_at, opening_of}
-use Rattle.em_desk.specs.Room.{needed, lefts}
+use Rattle.em_bounds.specs.Room.{needed}
 use Rattle.em_desk.specs.Served.{AllServed}
 use Rattle.em_desk.specs.Standing.{Stands}
 use Rattle.em_desk.specs.State.{MayAsk}
 use Rattle.em_desk.proofs.Asked.{steps_of, kept-same}
 use Rattle.em_desk.proofs.Begun.{pushed, IsCause, begun, at-rest, all-with, HasRoom, has-room-by, settled-pools, settled-queues}
 use Rattle.em_desk.proofs.Contexts.{opening-other}
-use Rattle.em_desk.proofs.Rooms.{lefts-end}
+use Rattle.em_bounds.proofs.Room.{needed-end}
 use Rattle.em_desk.proofs.Served.{none-busy}
 use Rattle.em_desk.proofs.Unordered.{no-ticket, boot-or-receive}
 
@@ -79,7 +79,7 @@ end-gives p c lost cells count = ap (λ (m : ℕ). What.End m cells) count
 
 end-needed : (p : Parts) (c lost : ℕ) (cells : Option Cells) → c < p.declarations.cores
     → needed p.declarations (entry_by c (What.End lost cells) ∷ p.history.past) ≤ needed p.declarations p.history.past
-end-needed p c lost cells lt = let sum = lefts-end p.declarations p.history.past c (What.End lost cells) lt (λ o. refl) in omega (arith, sum)
+end-needed p c lost cells lt = needed-end p.declarations p.history.past c (What.End lost cells) lt refl (λ o. refl)
 
 pub end-room : (p : Parts) (c lost : ℕ) (cells : Option Cells) → Stands p → MayAsk p.declarations p.history.past c (Ask.End cells) → lost ≡ length (held p.history.past c)
     → HasRoom p (end_of_context lost cells)
@@ -107,13 +107,10 @@ end-stands p q c lost cells s may count stands shapes spare opens =
       started = s.started;
       within = s.within;
       room = let r = s.room in omega (arith, less, r);
-      mintable = let r = s.mintable in omega (arith, r, sum, spare);
+      mintable = let r = s.mintable in omega (arith, r, less, spare);
       bounded = let r = s.bounded in omega (arith, less, r);
     }))
   where
-    sum : lefts p.declarations (entry_by c (What.End lost cells) ∷ p.history.past) p.declarations.cores ≤ lefts p.declarations p.history.past p.declarations.cores
-    sum = lefts-end p.declarations p.history.past c (What.End lost cells) may.core (λ o. refl)
-
     less : needed p.declarations (entry_by c (What.End lost cells) ∷ p.history.past) ≤ needed p.declarations p.history.past
     less = end-needed p c lost cells may.core
 

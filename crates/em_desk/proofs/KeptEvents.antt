@@ -166,7 +166,6 @@ keep-asked p c w may ok =
         begun = λ n c o. refl;
         started = λ n. refl;
         pays = omega arith;
-        served = λ c t. refl;
       };
     }
 
@@ -246,7 +245,6 @@ claim-asked p c e may is =
         begun = λ n c o. refl;
         started = λ n. refl;
         pays = omega arith;
-        served = λ c t. refl;
       };
     }
 

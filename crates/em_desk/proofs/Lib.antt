@@ -15,6 +15,8 @@ mod KeptEvents
 mod Ends
 mod Made
 mod Below
+mod Fronts
+mod Dequeues
 mod Stages
 mod Ready
 pub mod Numbers

@@ -1,5 +1,5 @@
 -- There is room for the mintings of an ask.
-use Rattle.std.proofs.Common.{◌≡◌, ℕ, zero, suc, ◌+◌, ◌<◌, ◌≤◌, [], ◌∷◌, List, length, Option, Some, None, refl, ap, subst, arith}
+use Rattle.std.proofs.Common.{◌≡◌, ℕ, ◌+◌, ◌<◌, ◌≤◌, [], ◌∷◌, List, length, Option, Some, None, refl, ap, arith}
 use Rattle.em_log.specs.declared.ask.Ask.{Ask}
 use Rattle.em_log.specs.declared.declarations.Declarations.{Declarations}
 use Rattle.em_log.specs.declared.entry.What.{What}
@@ -8,14 +8,14 @@ use Rattle.em_log.specs.History.{Past}
 use Rattle.em_log.specs.Allowance.{cost_of_ask, left}
 use Rattle.em_moments.proofs.Asked.{asks-open}
 use Rattle.em_bounds.specs.Paid.{paid, pays}
-use Rattle.em_laws.proofs.Cores.{Compared, Same, Other, compared}
 use Rattle.em_pool.specs.Steps.{PoolStep, mintings}
 use Rattle.em_parts.specs.PoolSteps.{Move, moved, moves, noted_steps, direct, pool_steps}
 use Rattle.em_desk.specs.declared.parts.Parts.{Parts}
-use Rattle.em_desk.specs.Room.{left_if, left_open, lefts}
+use Rattle.em_bounds.specs.Room.{left_if, left_open}
 use Rattle.em_desk.specs.Standing.{Stands}
 use Rattle.em_desk.specs.State.{MayAsk}
 use Rattle.em_desk.proofs.Begun.{settled-pools}
+use Rattle.em_desk.proofs.Rooms.{lefts-has}
 
 -- each minting is paid for
 
@@ -62,20 +62,12 @@ can-mint p s =
 
 -- and the pools have room
 
-lefts-has : (k : Declarations) (past : Past) (c n : ℕ) → c < n → left_open k past c ≤ lefts k past n
-lefts-has k past c zero lt = absurd (omega arith)
-lefts-has k past c (suc n) lt = by_test (compared n c) (λ (l : c < n). lefts-has k past c n l)
-  where
-    by_test : Compared n c → (c < n → left_open k past c ≤ lefts k past n) → left_open k past c ≤ lefts k past (suc n)
-    by_test (Same t e) later = subst (λ (d : ℕ). left_open k past d ≤ lefts k past (suc n)) e (omega arith)
-    by_test (Other f ne) later = let rest = later (omega (arith, lt, ne)) in omega (arith, rest)
-
 pub has-spare : (p : Parts) (c : ℕ) (a : Ask) → Stands p → MayAsk p.declarations p.history.past c a → 1 ≤ cost_of_ask a → 1 ≤ p.pools.spare
 has-spare p c a s may costs =
     let o = asks-open p.declarations p.history.past c a may.may in
     let open_now : left_open p.declarations p.history.past c ≡ left p.declarations p.history.past c =
     ap (λ (b : Option What). left_if b (left p.declarations p.history.past c)) o.1 in
-    let has = lefts-has p.declarations p.history.past c p.declarations.cores may.core in
+    let has = lefts-has p.declarations p.history.past c may.core in
     let fits = s.mintable in
     let enough = may.enough in
     omega (arith, open_now, has, fits, enough, costs)

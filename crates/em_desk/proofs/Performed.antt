@@ -24,7 +24,7 @@ use Rattle.em_desk.specs.declared.acts.Entrance.{Entrance}
 use Rattle.em_desk.specs.declared.parts.Parts.{Parts}
 use Rattle.em_desk.specs.Acts.{said, with_said, past_after, shifted_step, arrived_step, CanMove, CanEnter, MaySay, AreReady, act_index}
 use Rattle.em_desk.specs.Standing.{Standing, IsCore}
-use Rattle.em_desk.proofs.Rooms.{lefts-out}
+use Rattle.em_bounds.proofs.Room.{needed-out}
 use Rattle.em_desk.proofs.Contexts.{opening-stays}
 use Rattle.em_desk.proofs.Begun.{has-room-by}
 
@@ -119,7 +119,7 @@ can-say p c a acts s = by_says a.says refl s.ready.0.says
         → IfSome o (λ w. (length p.history.past + 1 ≤ p.history.capacity) × (pays w + paid p.history.past ≤ p.history.capacity))
     by_says None is may = tt
     by_says (Some (What.Out q kind words)) is may =
-        let same = lefts-out p.declarations p.history.past c q kind words (entry_by c (What.Out q kind words)) (entries_by c (said acts)) (told-first p c a acts _ s is) in
+        let same = needed-out p.declarations p.history.past c q kind words (entry_by c (What.Out q kind words)) (entries_by c (said acts)) (told-first p c a acts _ s is) in
         let r = s.room in
         let room = has-room-by p c (What.Out q kind words) (told-all p c a acts _ s is) (omega (arith, same, r)) in
         (room.length, room.paid)
@@ -165,7 +165,7 @@ performed p q c a acts s pool_stands shapes spare queue_stands same = by_says a.
     by_says (Some (What.Out r kind words)) is may =
         let e : Entry = entry_by c (What.Out r kind words) in
         let first : due p.declarations p.history.past ≡ e ∷ entries_by c (said acts) = told-first p c a acts (What.Out r kind words) s is in
-        let sum = lefts-out p.declarations p.history.past c r kind words e (entries_by c (said acts)) first in
+        let sum = needed-out p.declarations p.history.past c r kind words e (entries_by c (said acts)) first in
         record {
           fixed = record { graph = s.fixed.graph; limits = s.fixed.limits; cores = s.fixed.cores; allowed = s.fixed.allowed };
           all = told-all p c a acts (What.Out r kind words) s is;

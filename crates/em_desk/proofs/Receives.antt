@@ -9,13 +9,12 @@ use Rattle.em_log.specs.declared.entry.Event.{Event}
 use Rattle.em_log.specs.declared.entry.What.{What}
 use Rattle.em_log.specs.declared.ids.QueueId.{QueueId}
 use Rattle.em_log.specs.declared.ids.Stamp.{Stamp}
-use Rattle.em_log.specs.History.{Past, entry_by, entries_by, onto, index_of, handle_of}
+use Rattle.em_log.specs.History.{Past, entry_by, entries_by, onto, index_of}
 use Rattle.em_log.specs.Declarations.{event_total, kind_of, object_of}
 use Rattle.em_log.specs.Contexts.{context, object_begun}
-use Rattle.em_log.specs.Handles.{next_handle}
 use Rattle.em_log.specs.Order.{Ticket}
 use Rattle.em_log.specs.Arrivals.{Item}
-use Rattle.em_log.specs.Places.{waiting, taken, has_item, gone}
+use Rattle.em_log.specs.Places.{taken, gone}
 use Rattle.em_log.specs.Atomic.{cells}
 use Rattle.em_log.specs.Eligible.{is_choice, take_size, ticket_drawn}
 use Rattle.em_log.specs.Leads.{event_with, item_again}
@@ -36,38 +35,32 @@ use Rattle.em_parts.specs.PoolSteps.{pool_steps, moved, item_move}
 use Rattle.em_parts.specs.QueueSteps.{queue_steps}
 use Rattle.em_parts.specs.QueueAlike.{index_in}
 use Rattle.em_parts.proofs.QueueLists.{queues-alike, served-output}
-use Rattle.em_parts.proofs.Mintings.{same-generation, same-minting, same-last}
-use Rattle.em_places.specs.Parked.{InQueue, Sits}
-use Rattle.em_places.proofs.Parked.{parked-sit}
 use Rattle.em_desk.specs.declared.opening.Opening.{Opening}
 use Rattle.em_desk.specs.declared.parts.Parts.{Parts}
 use Rattle.em_desk.specs.Openings.{opening_at, opening_of}
-use Rattle.em_desk.specs.Room.{left_open, lefts, needed}
+use Rattle.em_log.specs.Allowance.{allowance}
+use Rattle.em_bounds.specs.Room.{left_open, lefts, needed}
+use Rattle.em_bounds.specs.Bound.{receive_need}
+use Rattle.em_bounds.proofs.Room.{lefts-more, other-left}
 use Rattle.em_desk.specs.Standing.{Stands}
-use Rattle.em_desk.specs.Starts.{IsNext}
+use Rattle.em_desk.specs.Starts.{IsNext, take_room}
 use Rattle.em_desk.proofs.Asked.{steps_of, kept-same}
 use Rattle.em_desk.proofs.Begun.{pushed, HasRoom, has-room-by, all-with, settled-pools, settled-queues}
-use Rattle.em_desk.proofs.Below.{minted-below}
 use Rattle.em_desk.proofs.Contexts.{opening-other}
 use Rattle.em_desk.proofs.KeptEvents.{HasObject, has-object}
-use Rattle.em_desk.proofs.Made.{IsMade, AllMade, made, drop-made}
+use Rattle.em_desk.proofs.Fronts.{IsFront, is-front, front-last, front-again, front-listed}
 use Rattle.em_desk.proofs.Ready.{declared-queue, choice-runs}
-use Rattle.em_desk.proofs.Rooms.{lefts-one, lefts-most, other-left}
+use Rattle.em_desk.proofs.Rooms.{lefts-most}
 use Rattle.em_desk.proofs.Unordered.{Unstamped, unordered, waits-unordered, undrawn, no-ticket, unheld, untaken}
 
 abbrev pub take_of : QueueId → What
 take_of q = What.Take q 1 None
 
--- the first item that waits for the core
+-- what a core may take: the first item that waits in the queue
 pub record IsFirst (p : Parts) (c : ℕ) (q : QueueId) : Type 0 where
   pub ready : IsReady p.declarations p.history.past c q.0
-  pub item : Item
-  pub rest : List Item
-  pub waits : waiting p.declarations p.history.past q.0 c ≡ item ∷ rest
-  pub stamp : item.stamp ≡ None
-  pub made : IsMade p.history.past item
-  pub sits : Sits p.declarations p.history.past item.handle (Place.Waiting q)
-  pub below : index_of item.handle < event_total p.declarations.pools
+  pub front : IsFront p.declarations p.history.past c q
+  pub stamp : front.item.stamp ≡ None
   pub take : What.Take q (take_size p.declarations p.limits p.history.past c q.0) (ticket_drawn p.declarations p.history.past q.0) ≡ take_of q
 
 drop-unstamped : (n : ℕ) (xs : List Item) → Unstamped xs → Unstamped (drop n xs)
@@ -82,25 +75,16 @@ is-first p c q s choice =
     let r = choice-ready k p.limits past c q.0 choice in
     let x = r.waits.0 in
     let xs = r.waits.1.0 in
-    let few = s.fixed.graph.events in
     let u = unordered k p.limits past s.all s.served in
     let kinds = undrawn k past q.0 (waits-unordered k past q.0 c x xs u r.waits.1.1) in
-    let inner = served-output (kind_of k q.0) r.served in
-    let stamps = subst Unstamped r.waits.1.1 (drop-unstamped (gone k past q.0 c) _ (u.stamps q.0 c)) in
-    let are_made = subst (AllMade past) r.waits.1.1 (drop-made past (gone k past q.0 c) _ (made k p.limits past (omega (arith, few)) s.all q.0 c)) in
-    let own = eq-eqb x.handle x.handle refl in
-    let there : has_item (waiting k past q.0 c) x.handle ≡ true = ap (λ ys. has_item ys x.handle) r.waits.1.1 ∙ (rw own refl) in
+    let f = is-front p c q x xs s (served-output (kind_of k q.0) r.served) r.waits.1.1 in
+    let stamps = subst Unstamped f.waits (drop-unstamped (gone k past q.0 c) _ (u.stamps q.0 c)) in
     let atomic = kinds.1 in
     let ordered = kinds.0 in
     record {
       ready = r;
-      item = x;
-      rest = xs;
-      waits = r.waits.1.1;
+      front = f;
       stamp = stamps.0;
-      made = are_made.0;
-      sits = parked-sit k p.limits past (omega (arith, few)) s.all x.handle (Place.Waiting q) (InQueue q.0 c inner there refl);
-      below = minted-below k p.limits past (omega (arith, few)) s.all x.handle are_made.0.minter are_made.0.minting;
       take = rw (atomic, ordered) refl;
     }
 
@@ -119,56 +103,36 @@ pub take-all : (p : Parts) (c : ℕ) (q : QueueId) → Stands p → c < p.declar
     → AllAllowed p.declarations p.limits (entry_by c (take_of q) ∷ p.history.past)
 take-all p c q s lt choice f = all-with p 0 c (take_of q) s lt (BeginsTake q.0 choice (sym f.take))
 
-taken-now : (p : Parts) (c : ℕ) (q : QueueId) (f : IsFirst p c q) → taken p.declarations (entry_by c (take_of q) ∷ p.history.past) c ≡ f.item ∷ []
-taken-now p c q f = let own = own-core c in rw own (ap (take 1) f.waits)
+taken-now : (p : Parts) (c : ℕ) (q : QueueId) (f : IsFirst p c q) → taken p.declarations (entry_by c (take_of q) ∷ p.history.past) c ≡ f.front.item ∷ []
+taken-now p c q f = let own = own-core c in rw own (ap (take 1) f.front.waits)
 
 tail-now : (p : Parts) (c : ℕ) (q : QueueId) (f : IsFirst p c q)
-    → tail p.declarations p.history.past (entry_by c (take_of q)) ≡ entry_by c (start_by q (item_again p.history.past f.item)) ∷ []
+    → tail p.declarations p.history.past (entry_by c (take_of q)) ≡ entry_by c (start_by q (item_again p.history.past f.front.item)) ∷ []
 tail-now p c q f =
     ap (λ (xs : List Item). entries_by c (first_start (entry_by c (take_of q) ∷ p.history.past) q.0 xs)) (taken-now p c q f)
-    ∙ ap (λ (t : Option Stamp). entry_by c (What.Start q (item_again p.history.past f.item) t) ∷ []) f.stamp
+    ∙ ap (λ (t : Option Stamp). entry_by c (What.Start q (item_again p.history.past f.front.item) t) ∷ []) f.stamp
 
 pub block-now : (p : Parts) (c : ℕ) (q : QueueId) (f : IsFirst p c q)
-    → after_take p.history.past c q (item_again p.history.past f.item) ≡ block p.declarations p.history.past (entry_by c (take_of q))
+    → after_take p.history.past c q (item_again p.history.past f.front.item) ≡ block p.declarations p.history.past (entry_by c (take_of q))
 block-now p c q f = sym (ap (λ (es : List Entry). onto es (entry_by c (take_of q) ∷ p.history.past)) (tail-now p c q f))
 
 due-now : (p : Parts) (c : ℕ) (q : QueueId) → Stands p → (f : IsFirst p c q)
-    → due p.declarations (entry_by c (take_of q) ∷ p.history.past) ≡ entry_by c (start_by q (item_again p.history.past f.item)) ∷ []
+    → due p.declarations (entry_by c (take_of q) ∷ p.history.past) ≡ entry_by c (start_by q (item_again p.history.past f.front.item)) ∷ []
 due-now p c q s f = ap (λ ds. due_after ds (tail p.declarations p.history.past (entry_by c (take_of q)))) s.due ∙ tail-now p c q f
 
 pub start-all : (p : Parts) (c : ℕ) (q : QueueId) → Stands p → c < p.declarations.cores → is_choice p.declarations p.limits p.history.past c q.0 ≡ true → (f : IsFirst p c q)
-    → AllAllowed p.declarations p.limits (after_take p.history.past c q (item_again p.history.past f.item))
+    → AllAllowed p.declarations p.limits (after_take p.history.past c q (item_again p.history.past f.front.item))
 start-all p c q s lt choice f = (
-  record { core = lt; next = subst (λ ds. IsNextEntry p.declarations p.limits (entry_by c (take_of q) ∷ p.history.past) ds (entry_by c (start_by q (item_again p.history.past f.item)))) (sym (due-now p c q s f)) refl },
+  record { core = lt; next = subst (λ ds. IsNextEntry p.declarations p.limits (entry_by c (take_of q) ∷ p.history.past) ds (entry_by c (start_by q (item_again p.history.past f.front.item)))) (sym (due-now p c q s f)) refl },
   take-all p c q s lt choice f,
 )
 
 -- steps
 
 pub pool-now : (p : Parts) (c : ℕ) (q : QueueId) (e : Event) (f : IsFirst p c q)
-    → pool_steps p.declarations (after_take p.history.past c q e) ≡ Minted c e ∷ Shifted (index_of f.item.handle) (Place.Taken (record { 0 = c })) ∷ steps_of p
+    → pool_steps p.declarations (after_take p.history.past c q e) ≡ Minted c e ∷ Shifted (index_of f.front.item.handle) (Place.Taken (record { 0 = c })) ∷ steps_of p
 pool-now p c q e f =
-    ap (λ (xs : List Item). Minted c e ∷ moved (map (item_move (Place.Taken (record { 0 = c }))) (take 1 xs)) (steps_of p)) f.waits
-
--- the pools know the item as the last event of its index, and mint it as its start says
-pub last-now : (p : Parts) (c : ℕ) (q : QueueId) (f : IsFirst p c q) → pool.last_event (Shifted (index_of f.item.handle) (Place.Taken (record { 0 = c })) ∷ steps_of p) (index_of f.item.handle) ≡ Some f.made.minter.event
-last-now p c q f =
-    ap (λ (h : Option ℕ). option_map pool.event_of (option_and_then (pool.minting (steps_of p)) h)) (same-last p.declarations p.history.past (index_of f.item.handle) ∙ f.sits.last)
-    ∙ ap (option_map pool.event_of) (same-minting p.declarations p.history.past f.item.handle ∙ f.made.minting)
-
-pub again-now : (p : Parts) (c : ℕ) (q : QueueId) (f : IsFirst p c q)
-    → event_with (pool.next_handle (Shifted (index_of f.item.handle) (Place.Taken (record { 0 = c })) ∷ steps_of p) (index_of f.item.handle)) f.made.minter.event.kind f.made.minter.event.words
-    ≡ item_again p.history.past f.item
-again-now p c q f =
-    ap (λ g. event_with (handle_of (g + 1) (index_of f.item.handle)) f.made.minter.event.kind f.made.minter.event.words) (same-generation p.declarations p.history.past (index_of f.item.handle))
-    ∙ (ap (λ n. event_with (next_handle p.history.past (index_of f.item.handle)) n f.made.minter.event.words) f.made.kind
-    ∙ ap (λ ws. event_with (next_handle p.history.past (index_of f.item.handle)) f.item.kind ws) f.made.words)
-
--- the lists of the queues before the take
-pub first-listed : (p : Parts) (c : ℕ) (q : QueueId) → Stands p → (f : IsFirst p c q)
-    → (lists p.declarations (queue_steps p.declarations p.history.past)).waiting q.0 c ≡ index_of f.item.handle ∷ map index_in f.rest
-first-listed p c q s f =
-    (queues-alike p.declarations p.limits p.history.past s.all).waiting q.0 c (served-output (kind_of p.declarations q.0) f.ready.served) ∙ ap (map index_in) f.waits
+    ap (λ (xs : List Item). Minted c e ∷ moved (map (item_move (Place.Taken (record { 0 = c }))) (take 1 xs)) (steps_of p)) f.front.waits
 
 pub none-taken : (p : Parts) (c : ℕ) → Stands p → (lists p.declarations (queue_steps p.declarations p.history.past)).taken c ≡ []
 none-taken p c s =
@@ -177,63 +141,61 @@ none-taken p c s =
 -- room
 
 received-lefts : (p : Parts) (c : ℕ) (q : QueueId) (e : Event) → Stands p → c < p.declarations.cores → (f : IsFirst p c q)
-    → lefts p.declarations (after_take p.history.past c q e) p.declarations.cores ≡ lefts p.declarations p.history.past p.declarations.cores + 256
+    → lefts p.declarations (after_take p.history.past c q e) ≡ lefts p.declarations p.history.past + allowance
 received-lefts p c q e s lt f =
     let k = p.declarations in
     let past = p.history.past in
     let own = own-core c in
     let closed = f.ready.between.closed in
     let before : left_open k past c ≡ 0 = rw closed refl in
-    let after : left_open k (after_take past c q e) c ≡ 256 = rw own refl in
-    let mine : left_open k past c + 256 ≡ left_open k (after_take past c q e) c = omega (arith, before, after) in
-    let sum = lefts-one k (after_take past c q e) past c k.cores 256 lt
-    (λ d ne. sym (other-left k (entry_by c (take_of q) ∷ past) c (start_by q e) d ne ∙ other-left k past c (take_of q) d ne)) mine in
-    sym sum
+    let after : left_open k (after_take past c q e) c ≡ allowance = rw own refl in
+    lefts-more k past (after_take past c q e) c allowance lt
+    (λ d ne. other-left k (entry_by c (take_of q) ∷ past) c (start_by q e) d ne ∙ other-left k past c (take_of q) d ne) (omega (arith, before, after))
 
 pub received-needed : (p : Parts) (c : ℕ) (q : QueueId) (e : Event) → Stands p → c < p.declarations.cores → (f : IsFirst p c q)
-    → needed p.declarations (after_take p.history.past c q e) ≡ needed p.declarations p.history.past + 260
+    → needed p.declarations (after_take p.history.past c q e) ≡ needed p.declarations p.history.past + receive_need
 received-needed p c q e s lt f = let sum = received-lefts p c q e s lt f in omega (arith, sum)
 
-fits-now : (p : Parts) (c : ℕ) (q : QueueId) (e : Event) → Stands p → c < p.declarations.cores → IsFirst p c q → paid p.history.past + 2052 ≤ p.history.capacity
+fits-now : (p : Parts) (c : ℕ) (q : QueueId) (e : Event) → Stands p → c < p.declarations.cores → IsFirst p c q → paid p.history.past + take_room ≤ p.history.capacity
     → needed p.declarations (after_take p.history.past c q e) ≤ p.history.capacity
 fits-now p c q e s lt f room =
-    let most = lefts-most p.declarations (after_take p.history.past c q e) p.declarations.cores in
+    let most = lefts-most p.declarations (after_take p.history.past c q e) in
     let cores = s.fixed.graph.most_cores in
     omega (arith, most, cores, room)
 
 -- the whole
 
 pub received : (p q' : Parts) (c : ℕ) (q : QueueId) (f : IsFirst p c q) → Stands p → c < p.declarations.cores → is_choice p.declarations p.limits p.history.past c q.0 ≡ true
-    → paid p.history.past + 2052 ≤ p.history.capacity → 2052 ≤ p.pools.spare
-    → pools.Stands q'.pools (Minted c (item_again p.history.past f.item) ∷ Shifted (index_of f.item.handle) (Place.Taken (record { 0 = c })) ∷ steps_of p)
+    → paid p.history.past + take_room ≤ p.history.capacity → take_room ≤ p.pools.spare
+    → pools.Stands q'.pools (Minted c (item_again p.history.past f.front.item) ∷ Shifted (index_of f.front.item.handle) (Place.Taken (record { 0 = c })) ∷ steps_of p)
     → q'.pools.pools ≡ p.pools.pools → q'.pools.spare + 1 ≡ p.pools.spare
     → queues.Stands p.declarations q'.queues (NextTaken c ∷ Took c q.0 1 ∷ queue_steps p.declarations p.history.past) → shape q'.queues ≡ shape p.queues
     → q'.contexts.items ≡ slice_set p.contexts.items c (Opening.Body (Some (object_id (object_of p.declarations q.0)))) → q'.started ≡ p.started + 1 → p.started ≢ p.limits.receives
-    → Stands (record p { history = record p.history { past = after_take p.history.past c q (item_again p.history.past f.item) }; pools = q'.pools; queues = q'.queues; contexts = q'.contexts; started = q'.started })
+    → Stands (record p { history = record p.history { past = after_take p.history.past c q (item_again p.history.past f.front.item) }; pools = q'.pools; queues = q'.queues; contexts = q'.contexts; started = q'.started })
 received p q' c q f s lt choice room spare pool_stands shapes minted queue_stands same opens count less =
     record {
       fixed = record { graph = s.fixed.graph; limits = s.fixed.limits; cores = s.fixed.cores; allowed = s.fixed.allowed };
       all = start-all p c q s lt choice f;
       served = (refl, (refl, s.served));
       core = tt;
-      due = ap (λ ds. due_after ds (tail p.declarations (entry_by c (take_of q) ∷ p.history.past) (entry_by c (start_by q (item_again p.history.past f.item))))) (due-now p c q s f);
-      pool = pool_steps p.declarations (after_take p.history.past c q (item_again p.history.past f.item));
-      pools = subst (pools.Stands q'.pools) (sym (pool-now p c q (item_again p.history.past f.item) f)) pool_stands;
+      due = ap (λ ds. due_after ds (tail p.declarations (entry_by c (take_of q) ∷ p.history.past) (entry_by c (start_by q (item_again p.history.past f.front.item))))) (due-now p c q s f);
+      pool = pool_steps p.declarations (after_take p.history.past c q (item_again p.history.past f.front.item));
+      pools = subst (pools.Stands q'.pools) (sym (pool-now p c q (item_again p.history.past f.front.item) f)) pool_stands;
       pool_lag = refl;
       pool_shape = shapes ∙ s.pool_shape;
-      queue = queue_steps p.declarations (after_take p.history.past c q (item_again p.history.past f.item));
+      queue = queue_steps p.declarations (after_take p.history.past c q (item_again p.history.past f.front.item));
       queues = queue_stands;
       queue_lag = refl;
       queue_shape = same ∙ s.queue_shape;
       ready = tt;
-      kept = kept-same p.declarations p.history.past (after_take p.history.past c q (item_again p.history.past f.item)) p.kept (λ x. refl) s.kept;
+      kept = kept-same p.declarations p.history.past (after_take p.history.past c q (item_again p.history.past f.front.item)) p.kept (λ x. refl) s.kept;
       cores = ap length opens ∙ (length-set p.contexts.items c _ ∙ s.cores);
       contexts = λ d l. by_core d l (compared c d);
       started = let b = s.started in omega (arith, b, count);
       within = let w = s.within in omega (arith, w, count, less);
-      room = fits-now p c q (item_again p.history.past f.item) s lt f room;
-      mintable = let most = lefts-most p.declarations (after_take p.history.past c q (item_again p.history.past f.item)) p.declarations.cores in let n = s.fixed.graph.most_cores in omega (arith, most, n, spare, minted);
-      bounded = let more = received-needed p c q (item_again p.history.past f.item) s lt f in let b = s.bounded in omega (arith, more, b, count);
+      room = fits-now p c q (item_again p.history.past f.front.item) s lt f room;
+      mintable = let most = lefts-most p.declarations (after_take p.history.past c q (item_again p.history.past f.front.item)) in let n = s.fixed.graph.most_cores in omega (arith, most, n, spare, minted);
+      bounded = let more = received-needed p c q (item_again p.history.past f.front.item) s lt f in let b = s.bounded in omega (arith, more, b, count);
     }
   where
     cores : c < length p.contexts.items
@@ -242,39 +204,39 @@ received p q' c q f s lt choice room spare pool_stands shapes minted queue_stand
     object : HasObject p.declarations q.0
     object = has-object p.declarations q.0 s.fixed.graph f.ready.served
 
-    own-opening : Opening.Body (Some (object_id (object_of p.declarations q.0))) ≡ opening_of p.declarations (after_take p.history.past c q (item_again p.history.past f.item)) c
+    own-opening : Opening.Body (Some (object_id (object_of p.declarations q.0))) ≡ opening_of p.declarations (after_take p.history.past c q (item_again p.history.past f.front.item)) c
     own-opening =
         let own = own-core c in
         let is = object.is in
         rw (own, is) refl
 
     by_core : (d : ℕ) → d < p.declarations.cores → Compared c d
-        → opening_at q'.contexts.items d ≡ opening_of p.declarations (after_take p.history.past c q (item_again p.history.past f.item)) d
+        → opening_at q'.contexts.items d ≡ opening_of p.declarations (after_take p.history.past c q (item_again p.history.past f.front.item)) d
     by_core d l (Same t same) =
         ap (λ os. opening_at os d) opens
         ∙ subst (λ (x : ℕ). opening_at (slice_set p.contexts.items c (Opening.Body (Some (object_id (object_of p.declarations q.0))))) x
-        ≡ opening_of p.declarations (after_take p.history.past c q (item_again p.history.past f.item)) x) same
+        ≡ opening_of p.declarations (after_take p.history.past c q (item_again p.history.past f.front.item)) x) same
         (get_or-set_same p.contexts.items c _ Opening.Closed cores ∙ own-opening)
     by_core d l (Other t ne) =
         ap (λ os. opening_at os d) opens
         ∙ (get_or-set_other p.contexts.items c d _ Opening.Closed (λ e. ne (sym e))
-        ∙ (s.contexts d l ∙ sym (opening-other p.declarations (entry_by c (take_of q) ∷ p.history.past) c d (start_by q (item_again p.history.past f.item)) ne (λ n. refl)
+        ∙ (s.contexts d l ∙ sym (opening-other p.declarations (entry_by c (take_of q) ∷ p.history.past) c d (start_by q (item_again p.history.past f.front.item)) ne (λ n. refl)
         ∙ opening-other p.declarations p.history.past c d (take_of q) ne (λ n. refl))))
 
 -- what the calls need
 
 pub take-room : (p : Parts) (c : ℕ) (q : QueueId) → Stands p → c < p.declarations.cores → is_choice p.declarations p.limits p.history.past c q.0 ≡ true → IsFirst p c q
-    → paid p.history.past + 2052 ≤ p.history.capacity → HasRoom p (take_of q)
+    → paid p.history.past + take_room ≤ p.history.capacity → HasRoom p (take_of q)
 take-room p c q s lt choice f room =
-    let most = lefts-most p.declarations (entry_by c (take_of q) ∷ p.history.past) p.declarations.cores in
+    let most = lefts-most p.declarations (entry_by c (take_of q) ∷ p.history.past) in
     let cores = s.fixed.graph.most_cores in
     has-room-by p c (take_of q) (take-all p c q s lt choice f) (omega (arith, most, cores, room))
 
 pub start-room : (p : Parts) (c : ℕ) (q : QueueId) → Stands p → c < p.declarations.cores → is_choice p.declarations p.limits p.history.past c q.0 ≡ true → (f : IsFirst p c q)
-    → paid p.history.past + 2052 ≤ p.history.capacity → HasRoom (record p { history = pushed p c (take_of q) }) (start_by q (item_again p.history.past f.item))
+    → paid p.history.past + take_room ≤ p.history.capacity → HasRoom (record p { history = pushed p c (take_of q) }) (start_by q (item_again p.history.past f.front.item))
 start-room p c q s lt choice f room =
-    has-room-by (record p { history = pushed p c (take_of q) }) c (start_by q (item_again p.history.past f.item)) (start-all p c q s lt choice f)
-    (fits-now p c q (item_again p.history.past f.item) s lt f room)
+    has-room-by (record p { history = pushed p c (take_of q) }) c (start_by q (item_again p.history.past f.front.item)) (start-all p c q s lt choice f)
+    (fits-now p c q (item_again p.history.past f.front.item) s lt f room)
 
 pub is-next : (p : Parts) (c : ℕ) (q : QueueId) → Stands p → c < p.declarations.cores → is_choice p.declarations p.limits p.history.past c q.0 ≡ true → IsFirst p c q → IsNext p.pools p.queues c q.0
 is-next p c q s lt choice f =
@@ -284,12 +246,12 @@ is-next p c q s lt choice f =
     record {
       queue = subst (λ v. q.0 < v.queues) (sym s.queue_shape) declared;
       core = subst (λ v. c < v.cores) (sym s.queue_shape) lt;
-      index = index_of f.item.handle;
-      more = map index_in f.rest;
-      is = stands.waiting q.0 c ∙ first-listed p c q s f;
+      index = index_of f.front.item.handle;
+      more = map index_in f.front.rest;
+      is = stands.waiting q.0 c ∙ front-listed p c q s f.front;
       idle = stands.taken c ∙ none-taken p c s;
-      below = subst (λ ps. index_of f.item.handle < event_total ps) (sym s.pool_shape) f.below;
-      waits = pool.spots (index_of f.item.handle) ∙ f.sits.spot;
+      below = subst (λ ps. index_of f.front.item.handle < event_total ps) (sym s.pool_shape) f.front.below;
+      waits = pool.spots (index_of f.front.item.handle) ∙ f.front.sits.spot;
       pool = steps_of p;
       known = pool;
       graph = p.declarations;
@@ -300,11 +262,11 @@ is-next p c q s lt choice f =
 -- the pools mint the item again
 pub again-at : (p : Parts) (c : ℕ) (q : QueueId) (e : Event) → Stands p → (f : IsFirst p c q)
     → ((s : List PoolStep) (i : ℕ) (is : List ℕ) (m : Event) → pools.Stands p.pools s → items_at p.queues q.0 c ≡ i ∷ is → pool.last_event s i ≡ Some m
-    → e ≡ event_with (pool.next_handle s i) m.kind m.words) → e ≡ item_again p.history.past f.item
+    → e ≡ event_with (pool.next_handle s i) m.kind m.words) → e ≡ item_again p.history.past f.front.item
 again-at p c q e s f answer =
-    answer (steps_of p) (index_of f.item.handle) (map index_in f.rest) f.made.minter.event (settled-pools p 0 s)
-    ((settled-queues p 0 s).waiting q.0 c ∙ first-listed p c q s f) (last-now p c q f)
-    ∙ again-now p c q f
+    answer (steps_of p) (index_of f.front.item.handle) (map index_in f.front.rest) f.front.made.minter.event (settled-pools p 0 s)
+    ((settled-queues p 0 s).waiting q.0 c ∙ front-listed p c q s f.front) (front-last p c q f.front)
+    ∙ front-again p c q f.front
 
 -- the context that has begun, as it is told
 

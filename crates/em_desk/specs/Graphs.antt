@@ -5,6 +5,7 @@ use Rattle.std.specs.Option.{option_map_or}
 use Rattle.em_log.specs.declared.declarations.Declarations.{Declarations}
 use Rattle.em_log.specs.declared.declarations.QueueShape.{QueueShape}
 use Rattle.em_log.specs.declared.ids.Limits.{Limits}
+use Rattle.em_log.specs.Bounds.{core_limit}
 use Rattle.em_log.specs.Declarations.{event_total, is_served}
 
 -- a queue that cores take from is of an object, and the object of a queue is one of n
@@ -14,7 +15,7 @@ is_owned n d = option_map_or (λ x. nat_lt x.0 n) d.eo (not (is_served d.kind))
 -- as every well-formed graph: its numbers are within bounds, and its queues of declared objects
 pub record AreInBounds (k : Declarations) : Type 0 where
   pub some_cores : 1 ≤ k.cores
-  pub most_cores : k.cores ≤ 8
+  pub most_cores : k.cores ≤ core_limit
   pub events : event_total k.pools ≤ 4096
   pub objects : length k.running ≤ 64
   pub queues : length k.queues ≤ 256

@@ -4,7 +4,6 @@ pub mod State
 pub mod Openings
 pub mod Lines
 pub mod Histories
-pub mod Room
 pub mod Acts
 pub mod Standing
 pub mod Choices

@@ -21,7 +21,8 @@ use Rattle.em_desk.specs.Served.{AllServed}
 use Rattle.em_desk.specs.Acts.{said, pool_acts, queue_acts, AreReady}
 use Rattle.em_desk.specs.Lines.{LinesState, list_at}
 use Rattle.em_desk.specs.Openings.{opening_at, opening_of}
-use Rattle.em_desk.specs.Room.{needed, lefts, receive_cost}
+use Rattle.em_bounds.specs.Room.{needed, lefts}
+use Rattle.em_bounds.specs.Bound.{receive_need}
 use Rattle.em_desk.specs.Choices.{AreAllowed}
 
 -- a core that has something to do is one of the graph
@@ -75,8 +76,8 @@ pub record Standing (p : Parts) (c : ℕ) (acts : List Act) : Type 0 where
   pub within : p.started ≤ p.limits.receives
   -- there is room for all that the open contexts may still cause, and their mintings
   pub room : needed p.declarations p.history.past ≤ p.history.capacity
-  pub mintable : lefts p.declarations p.history.past p.declarations.cores ≤ p.pools.spare
-  pub bounded : needed p.declarations p.history.past ≤ receive_cost * (1 + p.started)
+  pub mintable : lefts p.declarations p.history.past ≤ p.pools.spare
+  pub bounded : needed p.declarations p.history.past ≤ receive_need * (1 + p.started)
 
 -- between asks nothing is left to do
 abbrev pub Stands : Parts → Type 0

@@ -28,6 +28,8 @@ impl Parts {
             Ask::Send { word, queue, .. } => self.send(core, word, queue),
             Ask::Keep(word) => self.keep(core, word),
             Ask::Claim => self.claim(core),
+            Ask::Dequeue(queue) => self.dequeue(core, queue),
+            Ask::Cell => self.cell(core),
             Ask::Say(value) => self.say(core, value),
             Ask::End(cells) => self.end(core, cells),
             _ => Outcome::Done,
@@ -148,6 +150,44 @@ impl Parts {
         let event = self.pools.mint(core, index);
         self.history.push(core, What::Claim(Some(event.copy())));
         Outcome::Minted(event)
+    }
+
+    /// Gives the first event of an unscheduled queue, if one waits there.
+    fn dequeue(&mut self, core: CoreId, queue: QueueId) -> Outcome
+        requires stands { Stands self.old }
+        requires may { MayAsk self.old.declarations self.old.history.past core.0 (TheAsk.Dequeue queue) }
+        ensures stands { Stands self.new }
+        ensures adds { Adds self.old self.new core.0 (lead self.old.declarations self.old.history.past core.0 (TheAsk.Dequeue queue)) result }
+    {
+        let index = match self.queues.dequeue(queue) {
+            Err(fault) => return self.refuse(core, Call::Dequeue, fault),
+            Ok(None) => {
+                self.history
+                    .push(core, What::Dequeue { queue, event: None });
+                return Outcome::Nothing;
+            }
+            Ok(Some(index)) => index,
+        };
+        let event = self.pools.mint(core, index);
+        let given = Some(event.copy());
+        self.history.push(
+            core,
+            What::Dequeue {
+                queue,
+                event: given,
+            },
+        );
+        Outcome::Minted(event)
+    }
+
+    /// Refuses to write a cell: only a context that holds an atomic context has cells, and these are its own.
+    fn cell(&mut self, core: CoreId) -> Outcome
+        requires stands { Stands self.old }
+        requires may { MayAsk self.old.declarations self.old.history.past core.0 TheAsk.Cell }
+        ensures stands { Stands self.new }
+        ensures adds { Adds self.old self.new core.0 (lead self.old.declarations self.old.history.past core.0 TheAsk.Cell) result }
+    {
+        self.refuse(core, Call::Cell, Fault::NotAtomic)
     }
 
     /// Notes a value.

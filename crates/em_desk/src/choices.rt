@@ -1,5 +1,6 @@
 //! Which queues a core may take from, as the graph is declared, and whether something waits there.
 ghost use Rattle.std.specs.Prelude.{◌≡◌, ℕ, ◌<◌, ◌≤◌, length, IfOk};
+ghost use Rattle.em_log.specs.Bounds.{core_limit};
 ghost use Rattle.em_log.specs.Declarations.{group_in, declared_mask, all_cores as all_cores_of};
 ghost use Rattle.em_log.specs.Eligible.{has_core as has_core_of};
 ghost use Rattle.std.specs.Option.{option_map};
@@ -14,7 +15,7 @@ use std::alloc::Global;
 
 /// The mask of the cores below this number.
 fn all_cores(cores: u8) -> u64
-    requires { cores ≤ 8 }
+    requires { cores ≤ core_limit }
     ensures { result ≡ all_cores_of cores }
 {
     let mut mask = 0;
@@ -26,7 +27,7 @@ fn all_cores(cores: u8) -> u64
 
 /// The mask that a queue group is declared with.
 fn mask_of(declarations: &Declarations, group: GroupId) -> u64
-    requires { declarations.now.cores ≤ 8 }
+    requires { declarations.now.cores ≤ core_limit }
     ensures { result ≡ declared_mask declarations.now group.0 }
 {
     if group.0 == 0 {
@@ -67,7 +68,7 @@ fn runs(declarations: &Declarations, shape: &QueueShape) -> bool
 
 /// Whether the core is in the mask of the queue's group.
 fn has_core(declarations: &Declarations, core: CoreId, shape: &QueueShape) -> bool
-    requires cores { declarations.now.cores ≤ 8 }
+    requires cores { declarations.now.cores ≤ core_limit }
     requires core { core.0 < declarations.now.cores }
     ensures { result ≡ has_core_in declarations.now core.0 shape.now }
 {
@@ -79,7 +80,7 @@ fn has_core(declarations: &Declarations, core: CoreId, shape: &QueueShape) -> bo
 
 /// The queues that the core may take from.
 fn allowed_for(declarations: &Declarations, core: CoreId) -> Allowed
-    requires cores { declarations.now.cores ≤ 8 }
+    requires cores { declarations.now.cores ≤ core_limit }
     requires queues { length declarations.now.queues ≤ 256 }
     requires core { core.0 < declarations.now.cores }
     ensures { (q : ℕ) → contains result q ≡ is_allowed declarations.now core.0 q }
@@ -97,7 +98,7 @@ fn allowed_for(declarations: &Declarations, core: CoreId) -> Allowed
 
 /// The queues that each core may take from. Err is want of memory.
 pub fn allowed(alloc: Global, declarations: &Declarations) -> Result<Vec<Allowed>, NoMemory>
-    requires cores { declarations.now.cores ≤ 8 }
+    requires cores { declarations.now.cores ≤ core_limit }
     requires queues { length declarations.now.queues ≤ 256 }
     ensures count { IfOk result (λ v. length v.items ≡ declarations.now.cores) }
     ensures allowed { IfOk result (λ v. AreAllowed declarations.now v.items) }
@@ -114,7 +115,7 @@ pub fn allowed(alloc: Global, declarations: &Declarations) -> Result<Vec<Allowed
 /// Whether something waits for some core in a queue that it may take from.
 pub fn any_ready(queues: &Queues, allowed: &[Allowed]) -> bool
     requires cores { length allowed.now ≤ (shape queues.now).cores }
-    requires few { length allowed.now ≤ 8 }
+    requires few { length allowed.now ≤ core_limit }
     ensures { IsAnyReady result queues.now allowed.now }
 {
     let mut core: u8 = 0;

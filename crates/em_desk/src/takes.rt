@@ -19,20 +19,20 @@ ghost use Rattle.em_pool.specs.Stands as pool;
 ghost use Rattle.em_queues.specs.Steps.{QueueStep, Took, NextTaken};
 ghost use Rattle.em_queues.specs.State.{items_at, shape};
 ghost use Rattle.em_queues.specs.Stands as lists;
-ghost use Rattle.em_desk.specs.Starts.{IsNext};
+ghost use Rattle.em_desk.specs.Starts.{IsNext, take_room};
 ghost use Rattle.em_desk.specs.Standing.{Stands};
 
 use crate::choices::any_ready;
 use crate::opening::{Opening, are_closed};
 use crate::parts::Parts;
 use crate::shapes::object_of;
-use em_log::{Body, CoreId, EndKind, Event, NoMemory, QueueId, What};
+use em_log::{Body, CoreId, EndKind, Event, MAX_CORES, NoMemory, QueueId, What};
 use em_pool::{Place, Pools};
 use em_queues::Queues;
 
 /// The most that a take may pay, and what the contexts may pay that are open then: a take and a start with the end of
-/// each, and the allowances of eight cores.
-const ROOM: usize = 4 + 8 * 256;
+/// each, and the allowance of each core.
+const ROOM: usize = 4 + 256 * MAX_CORES as usize;
 
 /// Takes the first event that waits for the core in the queue, and mints it for the core.
 fn start(pools: &mut Pools, queues: &mut Queues, core: CoreId, queue: QueueId) -> Event
@@ -59,8 +59,8 @@ impl Parts {
     pub fn make_room(&mut self) -> Result<(), NoMemory>
         requires { Stands self.old }
         ensures stands { Stands self.new }
-        ensures history { OnOk result (paid self.old.history.past + 2052 ≤ self.new.history.capacity) }
-        ensures mintings { OnOk result (2052 ≤ self.new.pools.spare) }
+        ensures history { OnOk result (paid self.old.history.past + take_room ≤ self.new.history.capacity) }
+        ensures mintings { OnOk result (take_room ≤ self.new.pools.spare) }
         ensures past { self.new.history.past ≡ self.old.history.past }
         ensures declarations { self.new.declarations ≡ self.old.declarations }
         ensures limits { self.new.limits ≡ self.old.limits }
@@ -73,8 +73,8 @@ impl Parts {
     pub fn boot(&mut self)
         requires stands { Stands self.old }
         requires unbegun { self.old.history.past ≡ [] }
-        requires history { paid self.old.history.past + 2052 ≤ self.old.history.capacity }
-        requires mintings { 2052 ≤ self.old.pools.spare }
+        requires history { paid self.old.history.past + take_room ≤ self.old.history.capacity }
+        requires mintings { take_room ≤ self.old.pools.spare }
         ensures stands { Stands self.new }
         ensures past { self.new.history.past ≡ entry_by 0 (TheWhat.Enter TheBody.Boot) ∷ [] }
         ensures declarations { self.new.declarations ≡ self.old.declarations }
@@ -120,8 +120,8 @@ impl Parts {
         requires stands { Stands self.old }
         requires choice { is_choice self.old.declarations self.old.limits self.old.history.past core.0 queue.0 ≡ true }
         requires core { core.0 < self.old.declarations.cores }
-        requires history { paid self.old.history.past + 2052 ≤ self.old.history.capacity }
-        requires mintings { 2052 ≤ self.old.pools.spare }
+        requires history { paid self.old.history.past + take_room ≤ self.old.history.capacity }
+        requires mintings { take_room ≤ self.old.pools.spare }
         ensures stands { Stands self.new }
         ensures past { self.new.history.past ≡ block self.old.declarations self.old.history.past (entry_by core.0 (TheWhat.Take queue 1 None)) }
         ensures told { context_told self.old.declarations self.new.history.past core.0 ≡ Some (TheContext.Receive (record { queue = queue; eo = object_id (object_of_queue self.old.declarations queue.0); event = result; stamp = None; ticket = None; cells = None; rest = [] })) }

@@ -2,7 +2,7 @@ use Rattle.std.proofs.Common.{◌+◌, ◌*◌, ◌≤◌, length, subst, arith}
 use Rattle.em_laws.specs.AllLaws.{KeepsLaws}
 use Rattle.em_laws.proofs.AllLaws.{keeps-laws}
 use Rattle.em_desk.specs.State.{DeskState}
-use Rattle.em_desk.proofs.Rooms.{has-room}
+use Rattle.em_bounds.proofs.Room.{has-room}
 use Rattle.em_desk.proofs.desk.Desk.log.Goals as goal
 
 pub returns-clause-few : goal.returns-clause-few

@@ -20,7 +20,8 @@ use Rattle.em_desk.specs.Standing.{Stands}
 use Rattle.em_desk.proofs.Asked.{steps_of}
 use Rattle.em_desk.proofs.Begun.{pushed, settled-pools, settled-queues}
 use Rattle.em_desk.proofs.Minting.{can-mint}
-use Rattle.em_desk.proofs.Receives.{is-first, first-listed, received, is-next, take-room, start-room, told-by, begun-now, block-now, again-at, after_take, take_of, start_by}
+use Rattle.em_desk.proofs.Fronts.{front-listed}
+use Rattle.em_desk.proofs.Receives.{is-first, received, is-next, take-room, start-room, told-by, begun-now, block-now, again-at, after_take, take_of, start_by}
 use Rattle.em_desk.proofs.Ready.{choice-less}
 use Rattle.em_desk.proofs.parts.Parts.receive.Goals as goal
 
@@ -72,12 +73,12 @@ returns-clause-stands c =
     let s = c.requires.stands in
     let f = is-first p n q s c.requires.choice in
     let is = again-at p n q c.start-event.result s f c.start-event.ensures.event in
-    let history = history-now p n q c.push.new.self c.push-2.new.self c.start-event.result c.copy.result (item_again p.history.past f.item) c.push.ensures c.push-2.ensures c.copy.ensures is in
+    let history = history-now p n q c.push.new.self c.push-2.new.self c.start-event.result c.copy.result (item_again p.history.past f.front.item) c.push.ensures c.push-2.ensures c.copy.ensures is in
     let opens : Opening = Opening.Body (Some c.object_of.result) in
     let q' : Parts = record p { pools = c.start-event.new.pools; queues = c.start-event.new.queues; contexts = with_item p.contexts c.from.result opens; started = p.started + 1 } in
-    let first = (settled-queues p 0 s).waiting q.0 n ∙ first-listed p n q s f in
-    let stands = subst (λ (e : Event). pools.Stands c.start-event.new.pools (Minted n e ∷ Shifted (index_of f.item.handle) (Place.Taken c.args.core) ∷ steps_of p)) is
-    (c.start-event.ensures.pools (steps_of p) (index_of f.item.handle) (map index_in f.rest) (settled-pools p 0 s) first) in
+    let first = (settled-queues p 0 s).waiting q.0 n ∙ front-listed p n q s f.front in
+    let stands = subst (λ (e : Event). pools.Stands c.start-event.new.pools (Minted n e ∷ Shifted (index_of f.front.item.handle) (Place.Taken c.args.core) ∷ steps_of p)) is
+    (c.start-event.ensures.pools (steps_of p) (index_of f.front.item.handle) (map index_in f.front.rest) (settled-pools p 0 s) first) in
     subst (λ (h : HistoryState). Stands (record q' { history = h })) (sym history)
     (received p q' n q f s c.requires.core c.requires.choice c.requires.history c.requires.mintings stands c.start-event.ensures.shapes c.start-event.ensures.spent
     (c.start-event.ensures.queues p.declarations (queue_steps p.declarations p.history.past) (settled-queues p 0 s)) c.start-event.ensures.same_shape
@@ -92,7 +93,7 @@ returns-clause-past c =
     let f = is-first p n q s c.requires.choice in
     let is = again-at p n q c.start-event.result s f c.start-event.ensures.event in
     ap (λ (h : HistoryState). h.past)
-    (history-now p n q c.push.new.self c.push-2.new.self c.start-event.result c.copy.result (item_again p.history.past f.item) c.push.ensures c.push-2.ensures c.copy.ensures is)
+    (history-now p n q c.push.new.self c.push-2.new.self c.start-event.result c.copy.result (item_again p.history.past f.front.item) c.push.ensures c.push-2.ensures c.copy.ensures is)
     ∙ block-now p n q f
 
 pub returns-clause-told : goal.returns-clause-told
@@ -102,14 +103,14 @@ returns-clause-told c =
     let q = c.args.queue in
     let s = c.requires.stands in
     let f = is-first p n q s c.requires.choice in
-    let e : Event = item_again p.history.past f.item in
+    let e : Event = item_again p.history.past f.front.item in
     let is = again-at p n q c.start-event.result s f c.start-event.ensures.event in
     let history = history-now p n q c.push.new.self c.push-2.new.self c.start-event.result c.copy.result e c.push.ensures c.push-2.ensures c.copy.ensures is in
     let opens : Opening = Opening.Body (Some c.object_of.result) in
     let q' : Parts = record p { pools = c.start-event.new.pools; queues = c.start-event.new.queues; contexts = with_item p.contexts c.from.result opens; started = p.started + 1 } in
-    let first = (settled-queues p 0 s).waiting q.0 n ∙ first-listed p n q s f in
-    let stands = subst (λ (e : Event). pools.Stands c.start-event.new.pools (Minted n e ∷ Shifted (index_of f.item.handle) (Place.Taken c.args.core) ∷ steps_of p)) is
-    (c.start-event.ensures.pools (steps_of p) (index_of f.item.handle) (map index_in f.rest) (settled-pools p 0 s) first) in
+    let first = (settled-queues p 0 s).waiting q.0 n ∙ front-listed p n q s f.front in
+    let stands = subst (λ (e : Event). pools.Stands c.start-event.new.pools (Minted n e ∷ Shifted (index_of f.front.item.handle) (Place.Taken c.args.core) ∷ steps_of p)) is
+    (c.start-event.ensures.pools (steps_of p) (index_of f.front.item.handle) (map index_in f.front.rest) (settled-pools p 0 s) first) in
     let now = received p q' n q f s c.requires.core c.requires.choice c.requires.history c.requires.mintings stands c.start-event.ensures.shapes c.start-event.ensures.spent
     (c.start-event.ensures.queues p.declarations (queue_steps p.declarations p.history.past) (settled-queues p 0 s)) c.start-event.ensures.same_shape
     ((λ i. slice_set p.contexts.items (c.from.ensures i) (Opening.Body (Some (c.object_of.ensures i))))) refl (choice-less p n q.0 s c.requires.choice) in
