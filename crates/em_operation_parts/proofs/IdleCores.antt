@@ -65,7 +65,7 @@ first-owes k past c n a (suc w) v low high owed none = by_number (compared a n) 
     by_number x (Some u) at none later = absurd cc
 
 -- a first step is owed to some operation
-owed-first : (k : Declarations) (past : Past) (c : ℕ) (ns : List ℕ) (v : What) → log.first_owed k past c ns ≡ Some v → (n : ℕ) × (log.owed_to k past c n ≡ Some v)
+pub owed-first : (k : Declarations) (past : Past) (c : ℕ) (ns : List ℕ) (v : What) → log.first_owed k past c ns ≡ Some v → (n : ℕ) × (log.owed_to k past c n ≡ Some v)
 owed-first k past c [] v is = absurd cc
 owed-first k past c (n ∷ ns) v is = by_owed (log.owed_to k past c n) refl is (owed-first k past c ns v)
   where

@@ -14,3 +14,5 @@ pub mod Targets
 pub mod BegunOperations
 pub mod Refusals
 pub mod Queues
+pub mod Endings
+pub mod DueEndings

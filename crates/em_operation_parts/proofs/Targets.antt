@@ -134,7 +134,7 @@ module _ (k : Declarations) (l : Limits) (past : Past) (all : AllAllowed k l pas
   under-way (Begun.Stop x) is = same-state k x.0 past ∙ is
   under-way (Begun.Modify g m) is = same-change past g.0 ∙ is
 
-  step-undone : (c n : ℕ) (p : Phase) → c < k.cores → owed_to k.cores (ack_steps past) c n ≡ Some p → done past n ≡ None
+  pub step-undone : (c n : ℕ) (p : Phase) → c < k.cores → owed_to k.cores (ack_steps past) c n ≡ Some p → done past n ≡ None
   step-undone c n p lt owed = by_owed (log.owed_to k past c n) refl (sym (same-owed k l past all c n) ∙ owed)
     where
       by_owed : (o : Option What) → log.owed_to k past c n ≡ o → option_and_then phase_of o ≡ Some p → done past n ≡ None

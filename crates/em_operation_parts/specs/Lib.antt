@@ -8,3 +8,4 @@ pub mod GroupsAlike
 pub mod Targets
 pub mod BegunOperations
 pub mod Refusals
+pub mod Endings

@@ -2,16 +2,19 @@
 //! tells.
 #![tactic(auto)]
 
-ghost use Rattle.std.specs.Prelude.{ℕ, ◌≡◌, ◌<◌, ◌∷◌, false, List, Some, if◌then◌else◌};
+ghost use Rattle.std.specs.Prelude.{ℕ, Bool, ◌≡◌, ◌<◌, ◌∷◌, false, List, Option, Some, if◌then◌else◌};
 ghost use Rattle.em_log.specs.Contexts.{context};
 ghost use Rattle.em_log.specs.Declarations.{object_of, group_of, is_number};
 ghost use Rattle.em_log.specs.Eligible.{has_core};
-ghost use Rattle.em_log.specs.History.{Past};
+ghost use Rattle.em_log.specs.History.{Past, entry_by};
 ghost use Rattle.em_log.specs.Lawful.{AllAllowed, Lawful};
+ghost use Rattle.em_log.specs.Operations.{step};
 ghost use Rattle.em_log.specs.States.{is_running};
+ghost use Rattle.em_log.specs.Tails.{end_tail, ack_tail, has_failed};
 ghost use Rattle.em_log.specs.declared.declarations.Declarations.{Declarations};
 ghost use Rattle.em_log.specs.declared.entry.Body.{Body};
 ghost use Rattle.em_log.specs.declared.entry.What.{What};
+ghost use Rattle.em_log.specs.declared.ids.Cells.{Cells};
 ghost use Rattle.em_log.specs.declared.ids.EoState.{EoState};
 ghost use Rattle.em_log.specs.declared.ids.Limits.{Limits};
 ghost use Rattle.em_log.specs.declared.ids.OpId.{OpId};
@@ -25,6 +28,7 @@ ghost use Rattle.em_groups.specs.Masks.{effective};
 ghost use Rattle.em_groups.specs.Steps.{GroupStep};
 ghost use Rattle.em_operation_parts.specs.AckSteps.{ack_after, ack_steps, touches_operations, step_in};
 ghost use Rattle.em_operation_parts.specs.BegunOperations.{BegunAlike};
+ghost use Rattle.em_operation_parts.specs.Endings.{Ending, Acknowledges, told, told_from, ending_of, ending_after, IsDue};
 ghost use Rattle.em_operation_parts.specs.GroupSteps.{group_after, touches_groups};
 ghost use Rattle.em_operation_parts.specs.GroupsAlike.{GroupsAlike};
 ghost use Rattle.em_operation_parts.specs.ObjectSteps.{object_after, touches_objects};
@@ -74,6 +78,31 @@ pub fn groups_untouched()
 /// The step whose context a core has open is owed: the condition of `ack` and `global` of the operations.
 pub fn open_steps_are_owed()
     ensures { (k : Declarations) (l : Limits) (past : Past) → AllAllowed k l past → (v : AckState) → AckStands v (ack_steps past) → v.cores ≡ k.cores → (c : ℕ) (b : Body) (r : OpId × Phase) → c < k.cores → context past c ≡ Some (What.Enter b) → step_in b ≡ Some r → owed_at v c r.0.0 ≡ Some r.1 }
+{}
+
+/// What is still to be told once the context of a step has ended, one entry after another, is the tail of that end.
+pub fn endings_are_told()
+    ensures { (k : Declarations) (past : Past) (now : Past) (c : ℕ) (b : Body) (e : Ending) → ending_of b (has_failed past c) ≡ Some e → told_from k now c e ≡ end_tail k past now c (Some (What.Enter b)) }
+{}
+
+/// What is still to be told where a core acknowledges a change is that entry and its tail.
+pub fn changes_are_told()
+    ensures { (k : Declarations) (past : Past) (c : ℕ) (op : OpId) → told_from k past c (Acknowledges op) ≡ What.Ack op ∷ ack_tail k (entry_by c (What.Ack op) ∷ past) c op }
+{}
+
+/// Once the context of a step has ended, what is to be told next is due: the step is still owed.
+pub fn ended_steps_are_due()
+    ensures { (k : Declarations) (l : Limits) (past : Past) → AllAllowed k l past → (c : ℕ) (lost : ℕ) (cells : Option Cells) (b : Body) (failed : Bool) → c < k.cores → context past c ≡ Some (What.Enter b) → (e : Ending) → ending_of b failed ≡ Some e → IsDue k (entry_by c (What.End lost cells) ∷ past) c e }
+{}
+
+/// A change that a core has to acknowledge is due.
+pub fn owed_changes_are_due()
+    ensures { (k : Declarations) (l : Limits) (past : Past) → AllAllowed k l past → (c : ℕ) (op : OpId) → step k past c ≡ Some (What.Ack op) → IsDue k past c (Acknowledges op) }
+{}
+
+/// What is to be told after it stays due: an operation is not done before it is told so.
+pub fn endings_stay_due()
+    ensures { (k : Declarations) (l : Limits) (past : Past) → AllAllowed k l past → (c : ℕ) (e : Ending) (f : Ending) → c < k.cores → IsDue k past c e → ending_after k (entry_by c (told e) ∷ past) e ≡ Some f → IsDue k (entry_by c (told e) ∷ past) c f }
 {}
 
 /// What an operation that is not done does to its target is told by the parts: the conditions of `set` of the objects, and of
