@@ -4,7 +4,7 @@ use Rattle.std.proofs.lemmas.Bool.{cases_eq}
 use Rattle.em_log.specs.declared.declarations.PoolShape.{PoolShape}
 use Rattle.em_log.specs.Declarations.{numbers_from, event_total}
 use Rattle.em_pool.specs.declared.slot.Slot.{Slot}
-use Rattle.em_pool.specs.Free.{IsFirst}
+use Rattle.em_pool.specs.Indices.{IsFirst}
 use Rattle.em_pool.specs.Places.{is_free, events_of}
 use Rattle.em_pool.specs.State.{fresh}
 use Rattle.em_pool.specs.Whole.{IsWhole, is_free_slot}
@@ -33,7 +33,7 @@ map-below (x ∷ xs) (suc k) lt = map-below xs k (omega arith)
 abbrev pub is_free_at : List Slot → ℕ → Bool
 is_free_at slots i = is_free (get_or slots i fresh).place
 
-module _ {pools : List PoolShape} {slots : List Slot} {free : List Bool} {m spare room : ℕ} (whole : IsWhole pools slots free m spare room) where
+module _ {pools : List PoolShape} {slots : List Slot} {free : List Bool} {held : List (List Bool)} {m spare room : ℕ} (whole : IsWhole pools slots free held m spare room) where
   free-at : (k : ℕ) → k < length slots → get_or free k false ≡ is_free_at slots k
   free-at k lt = ap (λ f. get_or f k false) whole.free_is ∙ map-below slots k lt
 
@@ -82,7 +82,7 @@ pub bounds-from : (seen pools : List PoolShape) (p first end : ℕ) → seen ≡
 bounds-from seen pools p first end e a b w =
     subst (λ ps. AreBounds ps p first end) e (record { first_is = a; end_is = b; within = w })
 
-module _ {pools : List PoolShape} {slots : List Slot} {free : List Bool} {m spare room : ℕ} (whole : IsWhole pools slots free m spare room)
+module _ {pools : List PoolShape} {slots : List Slot} {free : List Bool} {held : List (List Bool)} {m spare room : ℕ} (whole : IsWhole pools slots free held m spare room)
     (p first end : ℕ) (bounds : AreBounds pools p first end) where
   enough : event_total (take p pools) + events_of pools p ≤ length slots
   enough = let e = bounds.end_is in let w = bounds.within in let n = whole.events in omega arith

@@ -1,6 +1,6 @@
 pub mod OlderLemmas
 pub mod BitLemmas
-pub mod FreeLemmas
+pub mod IndexLemmas
 pub mod ListLemmas
 pub mod Numbers
 pub mod Reading
@@ -10,6 +10,7 @@ pub mod WholeLemmas
 pub mod Shifting
 pub mod Minting
 pub mod Losing
+pub mod HeldEvents
 pub mod FirstFree
 pub mod Opening
 pub mod Allocating

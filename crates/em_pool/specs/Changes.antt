@@ -55,6 +55,9 @@ shifted_slot to s = record s { place = to }
 abbrev pub shifted : PoolState → ℕ → Place → PoolState
 shifted v i to = with_slot v i (shifted_slot to (slot_at v i))
 
+abbrev pub lost_now : ℕ → Slot → Slot
+lost_now p s = record s { place = Place.Lost; spent = Some (record { freed = true; place = p }) }
+
 abbrev pub lost_slot : ℕ → ℕ → Slot → Slot
 lost_slot c p s =
     if is_slot_held_by c s then record s { place = Place.Lost; spent = Some (record { freed = true; place = p }) } else s

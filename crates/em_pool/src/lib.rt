@@ -2,7 +2,8 @@
 #![tactic(auto)]
 
 mod bits;
-mod free;
+mod holders;
+mod indices;
 mod older;
 pub mod place;
 pub mod pools;

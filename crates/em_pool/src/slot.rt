@@ -1,8 +1,8 @@
 //! What the pools keep of one event.
 ghost use Rattle.std.specs.Prelude.{◌≡◌, ◌<◌, ◌^◌, IfOk, replicate, map, count_by, length};
 ghost use Rattle.em_log.specs.History.{handle_of};
-ghost use Rattle.em_pool.specs.State.{fresh, rule_by, is_slot_held_by, is_held_by};
-ghost use Rattle.em_pool.specs.Changes.{lost_slot};
+ghost use Rattle.em_pool.specs.State.{fresh, rule_by, is_held_by, is_slot_held_by};
+ghost use Rattle.em_pool.specs.Changes.{lost_now, lost_slot};
 
 use crate::place::{Place, Spent};
 use em_log::{CoreId, Fault, Handle, NoMemory, Words};
@@ -68,20 +68,15 @@ fn is_held(place: Place, core: CoreId) -> bool
     }
 }
 
-/// Loses the event if the core holds it, and tells whether it did.
-fn lose(slot: &mut Slot, core: CoreId, place: u64) -> bool
-    ensures slot { slot.new ≡ lost_slot core.0 place slot.old }
-    ensures held { result ≡ is_slot_held_by core.0 slot.old }
+/// Loses the event.
+pub fn lose(slot: &mut Slot, place: u64)
+    ensures { slot.new ≡ lost_now place slot.old }
 {
-    let held = is_held(slot.place, core);
-    if held {
-        slot.place = Place::Lost;
-        slot.spent = Some(Spent { freed: true, place });
-    }
-    held
+    slot.place = Place::Lost;
+    slot.spent = Some(Spent { freed: true, place });
 }
 
-/// Loses all events that the core holds, and answers how many.
+/// Loses all events that the core holds, found by a look at each event, and answers how many.
 pub fn lose_all(slots: &mut [Slot], core: CoreId, place: u64) -> u32
     requires { length slots.old < 2 ^ 32 }
     ensures slots { slots.new ≡ map (lost_slot core.0 place) slots.old }
@@ -89,7 +84,8 @@ pub fn lose_all(slots: &mut [Slot], core: CoreId, place: u64) -> u32
 {
     let mut lost = 0;
     for slot in slots.iter_mut() {
-        if lose(slot, core, place) {
+        if is_held(slot.place, core) {
+            lose(slot, place);
             lost += 1;
         }
     }

@@ -265,6 +265,43 @@ fn a_pool_that_is_empty(rt: HostRuntime) -> Result<(), NoMemory> {
 }
 
 #[test]
+fn what_an_end_loses(rt: HostRuntime) -> Result<(), NoMemory> {
+    let calls = [
+        Call::Alloc(0, 0, 0, Ok(Handle(65536))),
+        Call::Alloc(0, 0, 0, Ok(Handle(65537))),
+        Call::Alloc(1, 0, 0, Ok(Handle(65538))),
+        Call::Alloc(0, 0, 0, Ok(Handle(65539))),
+        Call::Spend(0, 65537, Spend::Freed, 5),
+        Call::Lose(0, 6, 2),
+        Call::Place(0, Place::Lost),
+        Call::Place(1, Place::Free),
+        Call::Place(2, Place::Held(CoreId(1))),
+        Call::Place(3, Place::Lost),
+        Call::Lose(0, 7, 0),
+        Call::Rule(0, 65539, Err(Fault::SpentByFree(6))),
+        Call::Lose(1, 8, 1),
+        Call::Place(2, Place::Lost),
+    ];
+    all_answer(&rt, rt.alloc(), 4, 0, calls.as_slice())
+}
+
+/// A core that the graph does not have.
+#[test]
+fn an_end_of_another_core(rt: HostRuntime) -> Result<(), NoMemory> {
+    let calls = [
+        Call::Alloc(0, 0, 0, Ok(Handle(65536))),
+        Call::Alloc(2, 0, 0, Ok(Handle(65537))),
+        Call::Alloc(2, 0, 0, Ok(Handle(65538))),
+        Call::Spend(2, 65537, Spend::Sent(QueueId(0)), 4),
+        Call::Lose(2, 5, 1),
+        Call::Place(0, Place::Held(CoreId(0))),
+        Call::Place(1, Place::Waiting(QueueId(0))),
+        Call::Place(2, Place::Lost),
+    ];
+    all_answer(&rt, rt.alloc(), 4, 0, calls.as_slice())
+}
+
+#[test]
 fn an_event_of_too_many_words(rt: HostRuntime) -> Result<(), NoMemory> {
     let calls = [
         Call::Alloc(0, 0, 2, Err(Fault::BadSize(1))),

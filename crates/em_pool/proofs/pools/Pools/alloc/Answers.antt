@@ -18,6 +18,11 @@ mint_with-requires-clause-index c =
     (event_total (take c.args.pool.0 c.args.self.now.pools)) c.in-Some.index (sym c.in-Some.ensures) in
     let le = pool-within c.args.self.now.pools c.args.pool.0 in omega arith
 
+pub mint_with-requires-clause-unheld : goal.mint_with-requires-clause-unheld
+mint_with-requires-clause-unheld c =
+    unheld_free (place_at c.args.self.now c.in-Some.index)
+    (found-passes (λ i. is_free (place_at c.args.self.now i)) (indices_of c.args.self.now.pools c.args.pool.0) c.in-Some.index (sym c.in-Some.ensures))
+
 pub returns-in-None-clause-answer : goal.returns-in-None-clause-answer
 returns-in-None-clause-answer c = λ s stands.
     let pools = c.as_slice.ensures ∙ ap (λ (v : PoolState). v.pools) c.self.view_is in

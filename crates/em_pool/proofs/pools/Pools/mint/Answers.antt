@@ -8,6 +8,9 @@ use Rattle.em_pool.specs.Steps.{Minted}
 use Rattle.em_pool.proofs.Minting.{minted-stands, unheld_mintable}
 use Rattle.em_pool.proofs.pools.Pools.mint.Goals as goal
 
+pub mint_with-handle-requires-clause-unheld : goal.mint_with-handle-requires-clause-unheld
+mint_with-handle-requires-clause-unheld c = unheld_mintable (place_at c.args.self.now c.args.index) c.requires.from
+
 pub returns-clause-stands : goal.returns-clause-stands
 returns-clause-stands c = λ s stands.
     let pools = ap (λ (v : PoolState). event_total v.pools) c.self.view_is in

@@ -5,7 +5,7 @@ use Rattle.std.proofs.lemmas.Bool.{cases_lt, cases_eq, eq-eqb, eqb-true}
 use Rattle.std.proofs.lemmas.List.{same_lists, get_or_past, get_or_read, get_or-replicate, length-replicate, set_at, replicate_more, append_assoc}
 use Rattle.std.proofs.lemmas.Nat.Bits.{bit_at-lt, bit_at-zero, same_from_bits}
 use Rattle.em_log.specs.Declarations.{numbers_from}
-use Rattle.em_pool.specs.Free.{is_member, AreSummed, IsFirst, IsSummed, members}
+use Rattle.em_pool.specs.Indices.{is_member, AreSummed, IsFirst, IsSummed, members}
 
 pub length-numbers : {B : Type 0} (f : ℕ → B) (n a : ℕ) → length (map f (numbers_from a n)) ≡ n
 length-numbers f zero a = refl

@@ -1,6 +1,6 @@
 use Rattle.std.proofs.Common.{ap, ◌∙◌, true, set}
-use Rattle.em_pool.proofs.FreeLemmas.{fill-step}
-use Rattle.em_pool.proofs.free.FreeSet.full.Goals as goal
+use Rattle.em_pool.proofs.IndexLemmas.{fill-step}
+use Rattle.em_pool.proofs.indices.IndexSet.full.Goals as goal
 
 pub loop-index-preserved : goal.loop-index-preserved
 loop-index-preserved c =

@@ -1,7 +1,7 @@
 use Rattle.std.proofs.Common.{ap, ◌∙◌, ◌/◌, ◌+◌}
-use Rattle.em_pool.specs.Free.{members}
-use Rattle.em_pool.proofs.FreeLemmas.{members-zero}
-use Rattle.em_pool.proofs.free.FreeSet.empty.Goals as goal
+use Rattle.em_pool.specs.Indices.{members}
+use Rattle.em_pool.proofs.IndexLemmas.{members-zero}
+use Rattle.em_pool.proofs.indices.IndexSet.empty.Goals as goal
 
 pub returns-in-Ok : goal.returns-in-Ok
 returns-in-Ok c =

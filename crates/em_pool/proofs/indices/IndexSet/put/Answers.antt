@@ -1,8 +1,8 @@
 use Rattle.std.proofs.Common.{◌≡◌, ℕ, ◌<◌, length, set, arith, ap, sym, ◌∙◌, subst, Bool, List}
 use Rattle.std.specs.Int.{bit_at}
-use Rattle.em_pool.specs.Free.{members, IsSummed}
-use Rattle.em_pool.proofs.FreeLemmas.{IsPut, length-members, members-put, put-summed, put-word}
-use Rattle.em_pool.proofs.free.FreeSet.put.Goals as goal
+use Rattle.em_pool.specs.Indices.{members, IsSummed}
+use Rattle.em_pool.proofs.IndexLemmas.{IsPut, length-members, members-put, put-summed, put-word}
+use Rattle.em_pool.proofs.indices.IndexSet.put.Goals as goal
 
 within_size : {summary : ℕ} (size : ℕ) (words : List ℕ) (old : List Bool) (i : ℕ) → IsSummed size words summary
     → members size words ≡ old → i < length old → i < size

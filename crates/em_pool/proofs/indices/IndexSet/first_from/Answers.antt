@@ -1,7 +1,7 @@
 use Rattle.std.proofs.Common.{ap, sym, ◌∙◌, false, get_or}
-use Rattle.em_pool.specs.Free.{is_member}
-use Rattle.em_pool.proofs.FreeLemmas.{member-is, same_first}
-use Rattle.em_pool.proofs.free.FreeSet.first_from.Goals as goal
+use Rattle.em_pool.specs.Indices.{is_member}
+use Rattle.em_pool.proofs.IndexLemmas.{member-is, same_first}
+use Rattle.em_pool.proofs.indices.IndexSet.first_from.Goals as goal
 
 pub returns : goal.returns
 returns c =

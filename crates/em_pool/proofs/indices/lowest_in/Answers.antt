@@ -1,6 +1,6 @@
 use Rattle.std.proofs.Common.{arith, ap, sym, ◌∙◌, slice_index}
-use Rattle.em_pool.proofs.FreeLemmas.{zero_from_bits}
-use Rattle.em_pool.proofs.free.lowest_in.Goals as goal
+use Rattle.em_pool.proofs.IndexLemmas.{zero_from_bits}
+use Rattle.em_pool.proofs.indices.lowest_in.Goals as goal
 
 pub returns-in-None : goal.returns-in-None
 returns-in-None c = λ k le.

@@ -1,6 +1,6 @@
-//! Which events are free: a set of indices in words of 64 bits, under one word that tells which of them are not 0.
+//! Sets of indices in words of 64 bits, under one word that tells which of them are not 0.
 ghost use Rattle.std.specs.Prelude.{◌≡◌, ◌*◌, ◌<◌, ◌≤◌, true, false, length, replicate, slice_set, slice_index, slice_index_or, IfOk};
-ghost use Rattle.em_pool.specs.Free.{is_member, AreSummed, IsFirst};
+ghost use Rattle.em_pool.specs.Indices.{is_member, AreSummed, IsFirst};
 
 use crate::bits::{lowest_from, with_bit};
 use em_log::NoMemory;
@@ -9,15 +9,15 @@ use std::marker::Model;
 
 /// A set of indices below a size of at most 4,096, seen as which of them are in it.
 #[derive(Drop)]
-pub struct FreeSet {
+pub struct IndexSet {
     size: u16,
     words: Vec<u64>,
     summary: u64,
 }
 
-impl Model for FreeSet {
+impl Model for IndexSet {
     ghost use Rattle.std.specs.Prelude.{List, Bool};
-    ghost use Rattle.em_pool.specs.Free.{members, IsSummed};
+    ghost use Rattle.em_pool.specs.Indices.{members, IsSummed};
 
     ghost Value = { List Bool };
 
@@ -26,14 +26,14 @@ impl Model for FreeSet {
     ghost invariant = { λ s. IsSummed s.size s.words.items s.summary };
 }
 
-impl FreeSet {
+impl IndexSet {
     /// No index below `size`.
-    fn empty(alloc: Global, size: u16) -> Result<FreeSet, NoMemory>
+    pub fn empty(alloc: Global, size: u16) -> Result<IndexSet, NoMemory>
         requires { size ≤ 4096 }
         ensures { IfOk result (λ s. s ≡ replicate size false) }
     {
         match vec![in alloc; 0u64; (usize::from(size) + 63) / 64] {
-            Ok(words) => Ok(FreeSet {
+            Ok(words) => Ok(IndexSet {
                 size,
                 words,
                 summary: 0,
@@ -43,11 +43,11 @@ impl FreeSet {
     }
 
     /// All indices below `size`.
-    pub fn full(alloc: Global, size: u16) -> Result<FreeSet, NoMemory>
+    pub fn full(alloc: Global, size: u16) -> Result<IndexSet, NoMemory>
         requires { size ≤ 4096 }
         ensures { IfOk result (λ s. s ≡ replicate size true) }
     {
-        let mut set = FreeSet::empty(alloc, size)?;
+        let mut set = IndexSet::empty(alloc, size)?;
         for index in 0..size {
             set.put(index, true);
         }
