@@ -7,7 +7,8 @@ pub mod Allowed
 pub mod Waiting
 pub mod Everywhere
 pub mod OrderUsed
-pub mod Simple
+pub mod RunnableParts
+pub mod OpenQueues
 pub mod Served
 pub mod Took
 pub mod Taking

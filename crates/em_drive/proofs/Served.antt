@@ -1,7 +1,6 @@
 -- What a context of a runnable graph runs, and what it asks.
-use Rattle.std.proofs.Common.{◌≡◌, ℕ, zero, suc, Bool, true, false, ◌&&◌, ◌||◌, List, [], ◌∷◌, Option, Some, None, refl, sym, subst, IsTrue}
+use Rattle.std.proofs.Common.{◌≡◌, ℕ, Bool, true, false, ◌&&◌, ◌||◌, List, [], ◌∷◌, Option, Some, None, refl, sym, subst, IsTrue}
 use Rattle.std.proofs.lemmas.Bool.{and_parts}
-use Rattle.std.specs.List.{list_all}
 use Rattle.std.specs.Option.{option_map_or, option_or}
 use Rattle.std.specs.Prelude.{slice_get}
 use Rattle.em_log.specs.declared.ask.Ask.{Ask}
@@ -20,7 +19,8 @@ use Rattle.em_log.specs.Declarations.{declarations_of}
 use Rattle.em_desk.specs.Served.{served}
 use Rattle.em_drive.specs.Runnable.{is_runnable, is_runnable_object, is_runnable_statement}
 use Rattle.em_drive.specs.Servable.{IsServable}
-use Rattle.em_drive.proofs.Simple.{runnable-parts, sends-served, runnable-no_error, runnable-objects, object-parts}
+use Rattle.em_drive.proofs.OpenQueues.{sends-served}
+use Rattle.em_drive.proofs.RunnableParts.{all-get, runnable-parts, runnable-no_error, runnable-objects, object-parts}
 
 -- ---- bodies that were not given
 
@@ -74,11 +74,6 @@ for-context d pass (Context.GlobalStart op x) = pass.start
 for-context d pass (Context.LocalStart op x) = pass.lstart
 for-context d pass (Context.LocalStop op x) = pass.lstop
 for-context d pass (Context.GlobalStop op x) = pass.stop
-
-all-get : {X : Type 0} (p : X → Bool) (xs : List X) (i : ℕ) (x : X) → list_all p xs ≡ true → slice_get xs i ≡ Some x → p x ≡ true
-all-get p [] i x all is = absurd (cc is)
-all-get p (y ∷ ys) zero x all is = let e : y ≡ x = cc is in subst (λ z. p z ≡ true) e (and_parts (p y) (list_all p ys) all).0
-all-get p (y ∷ ys) (suc i) x all is = all-get p ys i x (and_parts (p y) (list_all p ys) all).1 is
 
 for-declared : (g : Config) → IsWellFormed g → IsTrue (is_runnable g) → (i : ℕ) (context : Context) (o : Option EoDecl) → slice_get g.eos i ≡ o
     → IsTrue (everywhere_in is_runnable_statement (option_map_or (body_for (Some (entry_of context))) o []))

@@ -1,13 +1,11 @@
--- The graphs that run today: of one core, with pools, objects that run and have a receive body alone, and parallel queues of
--- priority normal in the group of all cores.
-use Rattle.std.specs.Prelude.{◌==◌, Bool, true, false, not, ◌&&◌, ◌||◌, List, [], ◌∷◌, Option, Some, None, is_none}
+-- The graphs that run today: of any cores and queue groups, with pools, objects that run and have a receive body alone, and
+-- queues that are neither atomic nor ordered.
+use Rattle.std.specs.Prelude.{Bool, true, false, not, ◌&&◌, ◌||◌, List, [], ◌∷◌, is_none}
 use Rattle.std.specs.List.{list_all}
 use Rattle.em_log.specs.declared.body.Stmt.{Stmt}
 use Rattle.em_log.specs.declared.graph.Config.{Config}
 use Rattle.em_log.specs.declared.graph.EoDecl.{EoDecl}
 use Rattle.em_log.specs.declared.graph.QueueDecl.{QueueDecl}
-use Rattle.em_log.specs.declared.graph.Priority.{Priority}
-use Rattle.em_log.specs.declared.ids.GroupId.{GroupId}
 use Rattle.em_log.specs.declared.ids.Kind.{Kind}
 use Rattle.em_body.specs.Everywhere.{everywhere_in}
 
@@ -31,20 +29,13 @@ is_runnable_object d =
     d.running && is_runnable_body d.receive && not (d.given.start || d.given.stop || d.given.lstart || d.given.lstop)
     && is_none d.error
 
-abbrev pub is_parallel : Kind → Bool
-is_parallel Kind.Parallel = true
-is_parallel _ = false
-
-abbrev pub is_normal : Option Priority → Bool
-is_normal (Some Priority.Normal) = true
-is_normal _ = false
-
-abbrev pub is_all : Option GroupId → Bool
-is_all None = false
-is_all (Some g) = g.0 == 0
+abbrev pub is_runnable_kind : Kind → Bool
+is_runnable_kind Kind.Atomic = false
+is_runnable_kind Kind.Ordered = false
+is_runnable_kind _ = true
 
 abbrev pub is_runnable_queue : QueueDecl → Bool
-is_runnable_queue d = is_parallel d.kind && is_normal d.priority && is_all d.group
+is_runnable_queue d = is_runnable_kind d.kind
 
 abbrev pub is_empty : {A : Type 0} → List A → Bool
 is_empty [] = true
@@ -52,5 +43,5 @@ is_empty (x ∷ xs) = false
 
 abbrev pub is_runnable : Config → Bool
 is_runnable g =
-    (g.cores == 1) && is_empty g.groups && is_empty g.agroups && is_empty g.egroups && list_all is_runnable_object g.eos
-    && list_all is_runnable_queue g.queues && is_runnable_body g.boot && is_none g.error
+    is_empty g.agroups && is_empty g.egroups && list_all is_runnable_object g.eos && list_all is_runnable_queue g.queues
+    && is_runnable_body g.boot && is_none g.error

@@ -1,12 +1,12 @@
 //! Which graphs run today.
-ghost use Rattle.std.specs.Prelude.{◌≡◌, ◌==◌, ◌&&◌, true};
+ghost use Rattle.std.specs.Prelude.{◌≡◌, true};
 ghost use Rattle.std.specs.List.{list_all};
 ghost use Rattle.em_log.specs.WellFormed.{IsWellFormed};
 ghost use Rattle.em_body.specs.Everywhere.{everywhere, everywhere_in};
 ghost use Rattle.em_drive.specs.Runnable as runnable;
 ghost use Rattle.em_drive.specs.Servable.{IsServable};
 
-use em_log::{Block, Config, EoDecl, GroupId, Kind, Priority, QueueDecl, Stmt};
+use em_log::{Block, Config, EoDecl, Kind, QueueDecl, Stmt};
 
 /// Whether the statement runs, with all blocks that lie in it.
 #[cycle(bodies)]
@@ -56,9 +56,7 @@ fn is_runnable_object(object: &EoDecl) -> bool
 fn is_runnable_queue(queue: &QueueDecl) -> bool
     ensures { result ≡ runnable.is_runnable_queue queue.now }
 {
-    queue.kind == Kind::Parallel
-        && queue.priority == Some(Priority::Normal)
-        && queue.group == Some(GroupId(0))
+    !matches!(queue.kind, Kind::Atomic | Kind::Ordered)
 }
 
 fn are_runnable_objects(objects: &[EoDecl]) -> bool
@@ -73,20 +71,11 @@ fn are_runnable_queues(queues: &[QueueDecl]) -> bool
     queues.iter().all(is_runnable_queue)
 }
 
-/// Whether the graph has one core, and no groups of any kind.
-fn has_one_core_alone(config: &Config) -> bool
-    ensures { result ≡ ((config.now.cores == 1) && runnable.is_empty config.now.groups && runnable.is_empty config.now.agroups && runnable.is_empty config.now.egroups) }
-{
-    config.cores == 1
-        && config.groups.as_slice().is_empty()
-        && config.agroups.as_slice().is_empty()
-        && config.egroups.as_slice().is_empty()
-}
-
 fn is_runnable_graph(config: &Config) -> bool
     ensures { result ≡ runnable.is_runnable config.now }
 {
-    has_one_core_alone(config)
+    config.agroups.as_slice().is_empty()
+        && config.egroups.as_slice().is_empty()
         && are_runnable_objects(config.eos.as_slice())
         && are_runnable_queues(config.queues.as_slice())
         && is_runnable_body(config.boot.as_slice())

@@ -1,5 +1,7 @@
 mod devices;
+mod forms;
 mod gates;
+mod runs;
 mod writes;
 
 use em_io::{Sink, Source, SureSink, SureSource};
@@ -67,59 +69,36 @@ fn judge_rows(rt: &impl Abort, alloc: Global, rows: &[Row]) -> Result<(), Fail> 
     Ok(())
 }
 
-const WORDS_NOT_KNOWN: [Row; 7] = [
-    (
-        "solo 10 1",
-        "cores 1\npool p 1 1\neo x running\nqueue q parallel x normal all\nboot\nalloc v0 p 7 5\nsend v0 q\nend\nbody x receive\nsay word 0\nfree me\nend\ndone\n",
-        2,
-        "words not known\n",
-    ),
-    (
-        "solo 0 1 0",
-        "cores 1\npool p 1 1\neo x running\nqueue q parallel x normal all\nboot\nalloc v0 p 7 5\nsend v0 q\nend\nbody x receive\nsay word 0\nfree me\nend\ndone\n",
-        2,
-        "words not known\n",
-    ),
-    (
-        "solo 10 1 0,0",
-        "cores 1\npool p 1 1\neo x running\nqueue q parallel x normal all\nboot\nalloc v0 p 7 5\nsend v0 q\nend\nbody x receive\nsay word 0\nfree me\nend\ndone\n",
-        2,
-        "words not known\n",
-    ),
-    (
-        "solo 010 1 0",
-        "cores 1\npool p 1 1\neo x running\nqueue q parallel x normal all\nboot\nalloc v0 p 7 5\nsend v0 q\nend\nbody x receive\nsay word 0\nfree me\nend\ndone\n",
-        2,
-        "words not known\n",
-    ),
-    (
-        "-h",
-        "cores 1\npool p 1 1\neo x running\nqueue q parallel x normal all\nboot\nalloc v0 p 7 5\nsend v0 q\nend\nbody x receive\nsay word 0\nfree me\nend\ndone\n",
-        2,
-        "words not known\n",
-    ),
-    (
-        "",
-        "cores 1\npool p 1 1\neo x running\nqueue q parallel x normal all\nboot\nalloc v0 p 7 5\nsend v0 q\nend\nbody x receive\nsay word 0\nfree me\nend\ndone\n",
-        2,
-        "words not known\n",
-    ),
+const ONE_EVENT: &str =
+    "cores 1\npool p 1 1\neo x running\nqueue q parallel x normal all\nboot\nalloc v0 p 7 5\nsend v0 q\nend\nbody x receive\nsay word 0\nfree me\nend\ndone\n";
+
+const ONE_EVENT_RUN: &str =
+    "trace 1\n0 c0 enter boot\n1 c0 alloc p0 65536 kind 7 words 1 5\n2 c0 send 65536 q0\n3 c0 end lost 0\n4 c0 take q0 1\n5 c0 start q0 131072 kind 7 words 1 5\n6 c0 say 5\n7 c0 free 131072\n8 c0 end lost 0\nquiet\n";
+
+const WORDS_NOT_KNOWN: [Row; 18] = [
+    ("solo 10 1", ONE_EVENT, 2, "words not known\n"),
+    ("solo 0 1 0", ONE_EVENT, 2, "words not known\n"),
+    ("solo 10 1 0,0", ONE_EVENT, 2, "words not known\n"),
+    ("solo 010 1 0", ONE_EVENT, 2, "words not known\n"),
+    ("-h", ONE_EVENT, 2, "words not known\n"),
+    ("", ONE_EVENT, 2, "words not known\n"),
     ("check check", "", 2, "words not known\n"),
+    ("help", ONE_EVENT, 2, "words not known\n"),
+    ("check x", ONE_EVENT, 2, "words not known\n"),
+    ("solo help 1 0", ONE_EVENT, 2, "words not known\n"),
+    ("solo 10 1 0 0", ONE_EVENT, 2, "words not known\n"),
+    ("--help", ONE_EVENT, 2, "words not known\n"),
+    ("solo 10 1 -0", ONE_EVENT, 2, "words not known\n"),
+    ("run 10", ONE_EVENT, 2, "words not known\n"),
+    ("run 10 1 0", ONE_EVENT, 2, "words not known\n"),
+    ("gen 0", ONE_EVENT, 2, "words not known\n"),
+    ("gen 41", ONE_EVENT, 2, "words not known\n"),
+    ("gen 01", ONE_EVENT, 2, "words not known\n"),
 ];
 
 const RUNS: [Row; 8] = [
-    (
-        "solo 10 1 0",
-        "cores 1\npool p 1 1\neo x running\nqueue q parallel x normal all\nboot\nalloc v0 p 7 5\nsend v0 q\nend\nbody x receive\nsay word 0\nfree me\nend\ndone\n",
-        0,
-        "trace 1\n0 c0 enter boot\n1 c0 alloc p0 65536 kind 7 words 1 5\n2 c0 send 65536 q0\n3 c0 end lost 0\n4 c0 take q0 1\n5 c0 start q0 131072 kind 7 words 1 5\n6 c0 say 5\n7 c0 free 131072\n8 c0 end lost 0\nquiet\n",
-    ),
-    (
-        "solo 1 1 0",
-        "cores 1\npool p 1 1\neo x running\nqueue q parallel x normal all\nboot\nalloc v0 p 7 5\nsend v0 q\nend\nbody x receive\nsay word 0\nfree me\nend\ndone\n",
-        0,
-        "trace 1\n0 c0 enter boot\n1 c0 alloc p0 65536 kind 7 words 1 5\n2 c0 send 65536 q0\n3 c0 end lost 0\n4 c0 take q0 1\n5 c0 start q0 131072 kind 7 words 1 5\n6 c0 say 5\n7 c0 free 131072\n8 c0 end lost 0\nquiet\n",
-    ),
+    ("solo 10 1 0", ONE_EVENT, 0, ONE_EVENT_RUN),
+    ("solo 1 1 0", ONE_EVENT, 0, ONE_EVENT_RUN),
     (
         "solo 10 1 0",
         "cores 1\npool p 4 1\neo x running\nqueue q parallel x normal all\nboot\nalloc v0 p 0\nfree v0\nalloc v1 p 0\nfree v0\nfree v1\nend\nbody x receive\nfree me\nend\ndone\n",
@@ -274,104 +253,4 @@ fn the_longest_inputs(rt: HostRuntime) -> Result<(), Fail> {
         }
     }
     Ok(())
-}
-
-/// The first line, further declarations, the boot body, and further bodies of a script that does not run today. All the
-/// rest of it does. It is in canonical spelling.
-type Form = (&'static str, &'static str, &'static str, &'static str);
-
-const DECLARATIONS_NOT_RUN_TODAY: [Form; 16] = [
-    ("cores 2", "", "", ""),
-    ("cores 1", "group g 1\n", "", ""),
-    ("cores 1", "eo y\n", "", ""),
-    ("cores 1", "queue u atomic x normal all\n", "", ""),
-    ("cores 1", "queue u ordered x normal all\n", "", ""),
-    ("cores 1", "queue u local x normal\n", "", ""),
-    ("cores 1", "queue u unscheduled\n", "", ""),
-    ("cores 1", "queue u output\n", "", ""),
-    ("cores 1", "queue u parallel x lowest all\n", "", ""),
-    ("cores 1", "queue u parallel x low all\n", "", ""),
-    ("cores 1", "queue u parallel x high all\n", "", ""),
-    ("cores 1", "queue u parallel x highest all\n", "", ""),
-    (
-        "cores 1",
-        "group g 1\nqueue u parallel x normal g\n",
-        "",
-        "",
-    ),
-    ("cores 1", "agroup a all\n", "", ""),
-    (
-        "cores 1",
-        "agroup a all\nqueue u atomic x normal in a\n",
-        "",
-        "",
-    ),
-    ("cores 1", "egroup e\n", "", ""),
-];
-
-const BODIES_NOT_RUN_TODAY: [Form; 8] = [
-    ("cores 1", "", "", "error\nend\n"),
-    ("cores 1", "", "", "body x start\nend\n"),
-    ("cores 1", "", "", "body x start\nfail\nend\n"),
-    ("cores 1", "", "", "body x stop\nend\n"),
-    ("cores 1", "", "", "body x lstart\nend\n"),
-    ("cores 1", "", "", "body x lstop\nend\n"),
-    ("cores 1", "", "", "body x error\nend\n"),
-    ("cores 1", "", "", "body x receive\nenable q\nend\n"),
-];
-
-const STATEMENTS_NOT_RUN_TODAY: [Form; 19] = [
-    ("cores 1", "", "cell 0 1\n", ""),
-    ("cores 1", "egroup e\n", "alloc v0 p 1\nsendg v0 q e\n", ""),
-    ("cores 1", "", "dequeue v0 q\n", ""),
-    ("cores 1", "", "enable q\n", ""),
-    ("cores 1", "", "disable q\n", ""),
-    ("cores 1", "", "endatomic\n", ""),
-    ("cores 1", "", "endordered\n", ""),
-    ("cores 1", "", "endgroup\n", ""),
-    ("cores 1", "egroup e\n", "apply e 1\n", ""),
-    ("cores 1", "egroup e\n", "apply e 1 note v0 q\n", ""),
-    ("cores 1", "", "increment 1\n", ""),
-    ("cores 1", "egroup e\n", "abort e\n", ""),
-    ("cores 1", "", "start x\n", ""),
-    ("cores 1", "", "stop x\n", ""),
-    ("cores 1", "", "modify all 1\n", ""),
-    ("cores 1", "", "if 1\ndisable q\nend\n", ""),
-    ("cores 1", "", "if 1\nsay 1\nelse\ndisable q\nend\n", ""),
-    ("cores 1", "", "repeat 2\ndisable q\nend\n", ""),
-    ("cores 1", "", "repeat 2\nif 0\ncell 0 1\nend\nend\n", ""),
-];
-
-/// The script of a form.
-fn script_of(alloc: Global, form: &Form) -> Result<String, Fail> {
-    let (cores, declared, boot, bodies) = form;
-    Ok(format!(in alloc;
-        "{cores}\npool p 4 1\neo x running\nqueue q parallel x normal all\n{declared}boot\n{boot}end\n{bodies}done\n"
-    )?)
-}
-
-/// Each form is refused where it should run. Where it is checked it comes back, without the comment and the spaces.
-fn judge_forms(rt: &impl Abort, alloc: Global, forms: &[Form]) -> Result<(), Fail> {
-    for form in forms {
-        let text = script_of(alloc, form)?;
-        let refused = "refused line 1 rule 12\n";
-        let bytes = text.as_bytes().to_vec(alloc)?;
-        judge(rt, alloc, "solo 10 1 0", bytes, 4, refused)?;
-        let spaced = format!(in alloc; "# cores 3\n\n  {text}  # end\n")?;
-        let bytes = spaced.as_bytes().to_vec(alloc)?;
-        judge(rt, alloc, "check", bytes, 0, text.as_str())?;
-    }
-    Ok(())
-}
-
-#[test]
-fn forms_that_do_not_run_today(rt: HostRuntime) -> Result<(), Fail> {
-    let alloc = rt.alloc();
-    let bare = script_of(alloc, &("cores 1", "", "", ""))?;
-    let run = "trace 1\n0 c0 enter boot\n1 c0 end lost 0\nquiet\n";
-    let bytes = bare.as_bytes().to_vec(alloc)?;
-    judge(&rt, alloc, "solo 10 1 0", bytes, 0, run)?;
-    judge_forms(&rt, alloc, &DECLARATIONS_NOT_RUN_TODAY)?;
-    judge_forms(&rt, alloc, &BODIES_NOT_RUN_TODAY)?;
-    judge_forms(&rt, alloc, &STATEMENTS_NOT_RUN_TODAY)
 }

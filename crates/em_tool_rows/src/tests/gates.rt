@@ -1,5 +1,6 @@
 //! What a gate is told during a run.
-use super::plain_at;
+use super::runs::HELD_BY_ANOTHER_CORE;
+use super::{ONE_EVENT, plain_at};
 use em_io::{SureSink, SureSource};
 use em_tool::{CoreId, Gate, QueueId};
 use std::alloc::Global;
@@ -56,9 +57,6 @@ fn run_with_recorder(
     Ok(gate.told.into_inner())
 }
 
-const ONE: &str =
-    "cores 1\npool p 1 1\neo x running\nqueue q parallel x normal all\nboot\nalloc v0 p 7 5\nsend v0 q\nend\nbody x receive\nsay word 0\nfree me\nend\ndone\n";
-
 const AGAIN: &str =
     "cores 1\npool p 4 1\neo x running\nqueue q parallel x normal all\nboot\nalloc v0 p 0\nsend v0 q\nend\nbody x receive\nsend me q\nend\ndone\n";
 
@@ -67,7 +65,7 @@ const SECOND_QUEUE: &str =
 
 const NO_EVENT: &str = "cores 1\nboot\nend\ndone\n";
 
-/// Each receive once, in order, and nothing else: the one core of these runs is never told that there is nothing to do.
+/// Each receive once, in order, and nothing else: on one core there is always something to do, until the run is over.
 #[test]
 fn each_receive_is_told(rt: HostRuntime) -> Result<(), Fail> {
     let alloc = rt.alloc();
@@ -77,7 +75,7 @@ fn each_receive_is_told(rt: HostRuntime) -> Result<(), Fail> {
         Told::Start(0, 0, 262144),
     ];
     let rows: [(&str, &str, u8, &[Told]); 4] = [
-        ("solo 10 1 0", ONE, 0, &again[..1]),
+        ("solo 10 1 0", ONE_EVENT, 0, &again[..1]),
         ("solo 3 1 0", AGAIN, 3, &again),
         ("solo 10 1 0", SECOND_QUEUE, 0, &[Told::Start(0, 1, 131073)]),
         ("solo 10 1 0", NO_EVENT, 0, &[]),
@@ -86,5 +84,25 @@ fn each_receive_is_told(rt: HostRuntime) -> Result<(), Fail> {
         let found = run_with_recorder(alloc, words, script, status)?;
         assert_eq!(rt; found.as_slice(), expected, "{script}");
     }
+    Ok(())
+}
+
+/// Two cores: core 1 waits in five rounds until boot has ended, and core 0 at the end for core 1.
+#[test]
+fn idle_cores_are_told(rt: HostRuntime) -> Result<(), Fail> {
+    let alloc = rt.alloc();
+    let (words, script, status, _) = HELD_BY_ANOTHER_CORE;
+    let found = run_with_recorder(alloc, words, script, status)?;
+    let expected = [
+        Told::Idle(1),
+        Told::Idle(1),
+        Told::Idle(1),
+        Told::Idle(1),
+        Told::Idle(1),
+        Told::Start(1, 0, 131072),
+        Told::Start(0, 0, 131073),
+        Told::Idle(0),
+    ];
+    assert_eq!(rt; found.as_slice(), expected.as_slice());
     Ok(())
 }

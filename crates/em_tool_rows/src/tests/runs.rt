@@ -1,0 +1,27 @@
+//! Runs of several cores, and of queues of every kind that runs.
+use super::{Row, judge_rows};
+use std::test::*;
+
+/// A handle is freed on a core that does not hold it.
+pub const HELD_BY_ANOTHER_CORE: Row = (
+    "solo 10 1 0,1",
+    "cores 2\npool p 2 0\neo x running\nqueue q parallel x normal all\nboot\nalloc v0 p 1\nsend v0 q\nalloc v0 p 2\nsend v0 q\nend\nbody x receive\nif eq kind 2\nfree 131072\nfree me\nelse\nsay 1\nsay 1\nsay 1\nfree me\nend\nend\ndone\n",
+    0,
+    "trace 1\n0 c0 enter boot\n1 c0 alloc p0 65536 kind 1 words 0\n2 c0 send 65536 q0\n3 c0 alloc p0 65537 kind 2 words 0\n4 c0 send 65537 q0\n5 c0 end lost 0\n6 c1 take q0 1\n7 c1 start q0 131072 kind 1 words 0\n8 c0 take q0 1\n9 c0 start q0 131073 kind 2 words 0\n10 c1 say 1\n11 c0 fault free 4 1 o0\n12 c1 say 1\n13 c0 free 131073\n14 c1 say 1\n15 c0 end lost 0\n16 c1 free 131072\n17 c1 end lost 0\nquiet\n",
+);
+
+const RUNS: [Row; 2] = [
+    HELD_BY_ANOTHER_CORE,
+    (
+        "solo 16 1 0",
+        "cores 1\npool p 2 0\npool q 3 16\npool r 1 1\neo x running\nqueue a parallel x normal all\nqueue o output\nboot\nalloc v0 q 4294967297 1 2 3 4 5 6 7 8 9 10 11 12 13 14 15 16\nalloc v1 q 1\nalloc v2 q 2 18446744073709551615\nalloc v3 q 3\nfree v1\nalloc v3 q 3 6\nsend v3 o\nalloc v3 p 1 1\nalloc v3 p 1\nalloc v4 r 2 1 2\nalloc v4 r 2 1\nalloc v5 r 2\nalloc v5 p 2\nalloc v6 p 3\nfree v3\nalloc v6 p 3\nalloc v7 q 5\nsend v7 a\nsend v0 a\nend\nbody x receive\nsay size\nsay word sub size 1\nsay word 15\nsay word 16\nalloc v0 q 1\nsend v0 o\nalloc v0 q 1\nsay v0\nend\ndone\n",
+        0,
+        "trace 1\n0 c0 enter boot\n1 c0 alloc p1 65538 kind 1 words 16 1 2 3 4 5 6 7 8 9 10 11 12 13 14 15 16\n2 c0 alloc p1 65539 kind 1 words 0\n3 c0 alloc p1 65540 kind 2 words 1 18446744073709551615\n4 c0 fault alloc 15 3 global\n5 c0 free 65539\n6 c0 alloc p1 131075 kind 3 words 1 6\n7 c0 send 131075 q1\n8 c0 out q1 kind 3 words 1 6\n9 c0 fault alloc 16 0 global\n10 c0 alloc p0 65536 kind 1 words 0\n11 c0 fault alloc 16 1 global\n12 c0 alloc p2 65541 kind 2 words 1 1\n13 c0 fault alloc 15 1 global\n14 c0 alloc p0 65537 kind 2 words 0\n15 c0 fault alloc 15 2 global\n16 c0 free 65536\n17 c0 alloc p0 131072 kind 3 words 0\n18 c0 alloc p1 196611 kind 5 words 0\n19 c0 send 196611 q0\n20 c0 send 65538 q0\n21 c0 end lost 4\n22 c0 take q0 1\n23 c0 start q0 262147 kind 5 words 0\n24 c0 say 0\n25 c0 say 0\n26 c0 say 0\n27 c0 say 0\n28 c0 fault alloc 15 3 o0\n29 c0 fault send 1 0 o0\n30 c0 fault alloc 15 3 o0\n31 c0 say 0\n32 c0 end lost 1\n33 c0 take q0 1\n34 c0 start q0 131074 kind 1 words 16 1 2 3 4 5 6 7 8 9 10 11 12 13 14 15 16\n35 c0 say 16\n36 c0 say 16\n37 c0 say 16\n38 c0 say 0\n39 c0 fault alloc 15 3 o0\n40 c0 fault send 1 0 o0\n41 c0 fault alloc 15 3 o0\n42 c0 say 0\n43 c0 end lost 1\nquiet\n",
+    ),
+];
+
+#[test]
+fn runs_of_cores_and_queues(rt: HostRuntime) -> Result<(), Fail> {
+    let alloc = rt.alloc();
+    judge_rows(&rt, alloc, &RUNS)
+}
