@@ -1,5 +1,5 @@
 ghost use Rattle.std.specs.Prelude.{◌≡◌, [], false, None, Some, ◌∷◌, IsTrue};
-ghost use Rattle.em_core.specs.FixedAsks.{IsReady, IsGoing, received, dequeued, freed, claimed, refused};
+ghost use Rattle.em_core.specs.FixedAsks.{IsReady, IsGoing, receive_of, received, dequeued, freed, claimed, refused};
 
 use crate::{CoreRun, Step};
 use em_log::{
@@ -37,25 +37,28 @@ impl Work for FixedAsks {
 
     ghost Leaves = { LeavesAt };
 
-    ghost begins_unasked = { λ f c s h. ap (unanswered_at s.line) h.1 };
+    ghost begins_unasked = { λ f c s h. ap (unanswered_at s.line s.cells) h.1 };
 
     ghost moves_asked = { λ f s m t h. h.asks };
 
     ghost moves_no_end = { λ f s m t h. h.no_end };
 
-    ghost leaves_unasked = { λ f s a t h. ap (unanswered_at t.line) h.0 };
+    ghost leaves_unasked = { λ f s a t h. ap (unanswered_at t.line t.cells) h.0 };
 
     fn begin(&mut self, context: &Context) {
         self.line = 0;
         self.waits = false;
-        self.cells = match context {
-            Context::Receive(receive) => receive.cells,
-            _ => None,
-        };
+        self.cells = None;
+        if let Context::Receive(receive) = context {
+            if receive.queue.0 > 0 {
+                self.line = 7;
+            }
+            self.cells = receive.cells;
+        }
     }
 
     fn next(&mut self) -> Move {
-        self.waits = self.line > 0 && self.line < 5;
+        self.waits = self.line > 0 && self.line < 7;
         match self.line {
             0 => {
                 self.line = 1;
@@ -65,11 +68,16 @@ impl Work for FixedAsks {
             2 => Move::Ask(Ask::Free(65537)),
             3 => Move::Ask(Ask::Claim),
             4 => Move::Ask(Ask::Free(5)),
+            5 => Move::Ask(Ask::EndAtomic(self.cells.unwrap_or(Cells([0; 8])))),
+            6 => Move::Ask(Ask::Cell),
             _ => Move::End,
         }
     }
 
     fn answer(&mut self, _answer: &Answer) {
+        if self.line == 5 {
+            self.cells = None;
+        }
         self.line = self.line.saturating_add(1);
         self.waits = false;
     }
@@ -98,21 +106,28 @@ fn event(handle: u64, kind: u32) -> Event
     }
 }
 
+/// A receive of this queue, with eight cells.
+fn receive(queue: u16) -> Context
+    ensures { result ≡ receive_of queue }
+{
+    Context::Receive(Receive {
+        queue: QueueId(queue),
+        eo: EoId(0),
+        event: event(65537, 7),
+        stamp: None,
+        ticket: None,
+        cells: Some(Cells([1, 2, 3, 4, 5, 6, 7, 8])),
+        rest: Rest::new(),
+    })
+}
+
 fn receives<W: Work>(run: &mut CoreRun<W>) -> bool
     requires { IsReady W.Work run.old [] }
     ensures { IsTrue result → IsReady W.Work run.new received }
 {
     match run.next() {
         Step::Take => {
-            run.told(&reply(Answer::Context(Context::Receive(Receive {
-                queue: QueueId(0),
-                eo: EoId(0),
-                event: event(65537, 7),
-                stamp: None,
-                ticket: None,
-                cells: Some(Cells([1, 2, 3, 4, 5, 6, 7, 8])),
-                rest: Rest::new(),
-            }))));
+            run.told(&reply(Answer::Context(receive(0))));
             true
         }
         _ => false,
@@ -178,15 +193,57 @@ fn is_refused<W: Work>(run: &mut CoreRun<W>) -> bool
     }
 }
 
-/// The context ends with the work's cells.
-fn ends<W: Work>(run: &mut CoreRun<W>) -> bool
+/// The context leaves its atomic context early, with the work's cells.
+fn leaves_early<W: Work>(run: &mut CoreRun<W>) -> bool
     requires { IsReady W.Work run.old refused }
     ensures { IsTrue result → IsGoing W.Work run.new }
 {
     match run.next() {
-        Step::Ask(Ask::End(Some(cells))) => {
+        Step::Ask(Ask::EndAtomic(cells)) => {
             run.told(&reply(Answer::Done));
             cells == Cells([1, 2, 3, 4, 5, 6, 7, 8])
+        }
+        _ => false,
+    }
+}
+
+/// A cell is written without an atomic context.
+fn writes_no_cell<W: Work>(run: &mut CoreRun<W>) -> bool
+    requires { IsGoing W.Work run.old }
+    ensures { IsTrue result → IsGoing W.Work run.new }
+{
+    match run.next() {
+        Step::Ask(Ask::Cell) => {
+            run.told(&reply(Answer::Refused(Fault::NotAtomic)));
+            true
+        }
+        _ => false,
+    }
+}
+
+/// The context ends, with these cells or with none.
+fn ends<W: Work>(run: &mut CoreRun<W>, expected: Option<Cells>) -> bool
+    requires { IsGoing W.Work run.old }
+    ensures { IsTrue result → IsGoing W.Work run.new }
+{
+    match run.next() {
+        Step::Ask(Ask::End(cells)) => {
+            run.told(&reply(Answer::Done));
+            cells == expected
+        }
+        _ => false,
+    }
+}
+
+/// A receive of another queue, whose body ends at once.
+fn receives_again<W: Work>(run: &mut CoreRun<W>) -> bool
+    requires { IsGoing W.Work run.old }
+    ensures { IsTrue result → IsGoing W.Work run.new }
+{
+    match run.next() {
+        Step::Take => {
+            run.told(&reply(Answer::Context(receive(1))));
+            true
         }
         _ => false,
     }
@@ -233,7 +290,7 @@ fn is_over<W: Work>(run: &mut CoreRun<W>) -> bool
 }
 
 #[test]
-fn one_receive_is_run(rt: HostRuntime) {
+fn two_receives_are_run(rt: HostRuntime) {
     let mut run = CoreRun::new(
         CoreId(0),
         FixedAsks {
@@ -249,7 +306,11 @@ fn one_receive_is_run(rt: HostRuntime) {
     assert!(rt; frees(&mut run));
     assert!(rt; claims(&mut run));
     assert!(rt; is_refused(&mut run));
-    assert!(rt; ends(&mut run));
+    assert!(rt; leaves_early(&mut run));
+    assert!(rt; writes_no_cell(&mut run));
+    assert!(rt; ends(&mut run, None));
+    assert!(rt; receives_again(&mut run));
+    assert!(rt; ends(&mut run, Some(Cells([1, 2, 3, 4, 5, 6, 7, 8]))));
     assert!(rt; rests(&mut run));
     assert!(rt; hands(&mut run));
     assert!(rt; is_over(&mut run));
