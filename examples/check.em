@@ -1,4 +1,4 @@
-# Two cores, an atomic group, an event group and a start: none of them runs yet.
+# An atomic group, an event group and a start: none of them runs yet.
 cores   2
 
 pool p 4 1

@@ -96,12 +96,14 @@ runnable-bodies g well h (Context.GlobalStop op x) = for-declared g well h x.0 (
 
 pub runnable-served : (g : Config) → IsWellFormed g → IsTrue (is_runnable g) → (s : Stmt) (v : Env) → IsTrue (is_runnable_statement s) → IsTrue (does_ask s v)
     → IsTrue (served (declarations_of g) (ask_of s v))
+runnable-served g well runs (Stmt.CellWrite c e) v h asks = refl
 runnable-served g well runs (Stmt.Say e) v h asks = refl
 runnable-served g well runs (Stmt.Alloc i p e ws) v h asks = refl
 runnable-served g well runs (Stmt.Free e) v h asks = refl
 runnable-served g well runs (Stmt.Keep e) v h asks = refl
 runnable-served g well runs (Stmt.Send e q) v h asks = sends-served g well runs q.0
 runnable-served g well runs (Stmt.Claim i) v h asks = refl
+runnable-served g well runs (Stmt.Dequeue i q) v h asks = refl
 runnable-served g well runs (Stmt.Set i e) v h asks = absurd cc
 runnable-served g well runs s v h asks = absurd cc
 

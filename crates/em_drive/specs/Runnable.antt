@@ -12,12 +12,14 @@ use Rattle.em_body.specs.Everywhere.{everywhere_in}
 -- the statements that run, `if` and `repeat` aside, which run where their blocks do
 abbrev pub is_runnable_statement : Stmt → Bool
 is_runnable_statement (Stmt.Set v e) = true
+is_runnable_statement (Stmt.CellWrite c e) = true
 is_runnable_statement (Stmt.Say e) = true
 is_runnable_statement (Stmt.Alloc v p e es) = true
 is_runnable_statement (Stmt.Free e) = true
 is_runnable_statement (Stmt.Keep e) = true
 is_runnable_statement (Stmt.Send e q) = true
 is_runnable_statement (Stmt.Claim v) = true
+is_runnable_statement (Stmt.Dequeue v q) = true
 is_runnable_statement s = false
 
 abbrev pub is_runnable_body : List Stmt → Bool

@@ -21,12 +21,14 @@ fn is_runnable_statement(statement: &Stmt) -> bool
         }
         Stmt::Repeat { block, .. } => is_runnable_body(block.as_slice()),
         Stmt::Set { .. }
+        | Stmt::CellWrite { .. }
         | Stmt::Say(_)
         | Stmt::Alloc { .. }
         | Stmt::Free(_)
         | Stmt::Keep(_)
         | Stmt::Send { .. }
-        | Stmt::Claim { .. } => true,
+        | Stmt::Claim { .. }
+        | Stmt::Dequeue { .. } => true,
         _ => false,
     }
 }

@@ -19,7 +19,7 @@ use Rattle.em_tool.specs.declared.commands.Solo.{Solo}
 use Rattle.em_tool.specs.declared.outcome.Outcome.{Outcome}
 use Rattle.em_tool.specs.declared.outcome.Outcome.TheVariants as outcomes
 use Rattle.em_tool.specs.Words.{IsCheck, IsCommand, IsSolo}
-use Rattle.em_tool.specs.Outcome.{Reading, ReadsAll, ReadsTooMuch, most_bytes, ComesTo, HasEnded, Due, NotKnown, ReadFailed, TooLong, Refused, NotRunnable, Ran, Checked, Answers, Written, WriteFailed, NoMemory, NoMemoryWriting, status_of, status_of_end, Told, Plain, Trace, Fits, bytes_of, told_of}
+use Rattle.em_tool.specs.Outcome.{Reading, ReadsAll, ReadsTooMuch, most_bytes, ComesTo, HasEnded, Due, NotKnown, ReadFailed, TooLong, Refused, NotRunnable, Ran, Checked, Answers, Written, WriteFailed, NoMemory, NoMemoryWriting, status_of, status_of_end, Told, Plain, Fits, bytes_of, told_of}
 use Rattle.em_trace.specs.Text.{text}
 use Rattle.em_tool.specs.Headline.{CanRun, CanCheck, Headline, Checked as CheckedAs, IsChecked, IsRun}
 

@@ -60,10 +60,8 @@ const BODIES_NOT_RUN_TODAY: [Form; 8] = [
     ("cores 1", "", "", "body x receive\nenable q\nend\n"),
 ];
 
-const STATEMENTS_NOT_RUN_TODAY: [Form; 19] = [
-    ("cores 1", "", "cell 0 1\n", ""),
+const STATEMENTS_NOT_RUN_TODAY: [Form; 17] = [
     ("cores 1", "egroup e\n", "alloc v0 p 1\nsendg v0 q e\n", ""),
-    ("cores 1", "", "dequeue v0 q\n", ""),
     ("cores 1", "", "enable q\n", ""),
     ("cores 1", "", "disable q\n", ""),
     ("cores 1", "", "endatomic\n", ""),
@@ -79,7 +77,7 @@ const STATEMENTS_NOT_RUN_TODAY: [Form; 19] = [
     ("cores 1", "", "if 1\ndisable q\nend\n", ""),
     ("cores 1", "", "if 1\nsay 1\nelse\ndisable q\nend\n", ""),
     ("cores 1", "", "repeat 2\ndisable q\nend\n", ""),
-    ("cores 1", "", "repeat 2\nif 0\ncell 0 1\nend\nend\n", ""),
+    ("cores 1", "", "repeat 2\nif 0\nenable q\nend\nend\n", ""),
 ];
 
 /// The script of a form.

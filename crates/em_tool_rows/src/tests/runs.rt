@@ -10,8 +10,29 @@ pub const HELD_BY_ANOTHER_CORE: Row = (
     "trace 1\n0 c0 enter boot\n1 c0 alloc p0 65536 kind 1 words 0\n2 c0 send 65536 q0\n3 c0 alloc p0 65537 kind 2 words 0\n4 c0 send 65537 q0\n5 c0 end lost 0\n6 c1 take q0 1\n7 c1 start q0 131072 kind 1 words 0\n8 c0 take q0 1\n9 c0 start q0 131073 kind 2 words 0\n10 c1 say 1\n11 c0 fault free 4 1 o0\n12 c1 say 1\n13 c0 free 131073\n14 c1 say 1\n15 c0 end lost 0\n16 c1 free 131072\n17 c1 end lost 0\nquiet\n",
 );
 
-const RUNS: [Row; 2] = [
+/// A cell is written where no atomic context is held, and an event is wanted from a queue that is not unscheduled.
+const CELL_AND_DEQUEUE_REFUSED: Row = (
+    "solo 10 1 0",
+    "cores 1\npool p 4 1\neo x running\nqueue q parallel x normal all\nboot\ncell 0 1\ndequeue v0 q\nsay v0\nend\ndone\n",
+    0,
+    "trace 1\n0 c0 enter boot\n1 c0 fault cell 7 0 global\n2 c0 fault dequeue 6 1 global\n3 c0 say 0\n4 c0 end lost 0\nquiet\n",
+);
+
+const RUNS: [Row; 5] = [
     HELD_BY_ANOTHER_CORE,
+    CELL_AND_DEQUEUE_REFUSED,
+    (
+        "solo 10 1 0",
+        "cores 1\npool p 1 0\neo x running\nqueue l local x normal\nqueue u unscheduled\nboot\nalloc v0 p 4\nsend v0 l\nend\nbody x receive\nkeep me\nclaim v0\ndequeue v1 u\nfree v0\nfree me\nend\ndone\n",
+        0,
+        "trace 1\n0 c0 enter boot\n1 c0 alloc p0 65536 kind 4 words 0\n2 c0 send 65536 q0\n3 c0 end lost 0\n4 c0 take q0 1\n5 c0 start q0 131072 kind 4 words 0\n6 c0 keep 131072\n7 c0 claim 196608 kind 4 words 0\n8 c0 dequeue q1 none\n9 c0 free 196608\n10 c0 fault free 2 6 o0\n11 c0 end lost 0\nquiet\n",
+    ),
+    (
+        "solo 10 1 0,1",
+        "cores 2\npool p 1 0\neo x running\nqueue l local x normal\nqueue u unscheduled\nboot\nalloc v0 p 4\nsend v0 l\nend\nbody x receive\nkeep me\nclaim v0\ndequeue v1 u\nfree v0\nfree me\nend\ndone\n",
+        0,
+        "trace 1\n0 c0 enter boot\n1 c0 alloc p0 65536 kind 4 words 0\n2 c0 send 65536 q0\n3 c0 end lost 0\n4 c0 take q0 1\n5 c0 start q0 131072 kind 4 words 0\n6 c0 keep 131072\n7 c0 claim 196608 kind 4 words 0\n8 c0 dequeue q1 none\n9 c0 free 196608\n10 c0 fault free 2 6 o0\n11 c0 end lost 0\nquiet\n",
+    ),
     (
         "solo 16 1 0",
         "cores 1\npool p 2 0\npool q 3 16\npool r 1 1\neo x running\nqueue a parallel x normal all\nqueue o output\nboot\nalloc v0 q 4294967297 1 2 3 4 5 6 7 8 9 10 11 12 13 14 15 16\nalloc v1 q 1\nalloc v2 q 2 18446744073709551615\nalloc v3 q 3\nfree v1\nalloc v3 q 3 6\nsend v3 o\nalloc v3 p 1 1\nalloc v3 p 1\nalloc v4 r 2 1 2\nalloc v4 r 2 1\nalloc v5 r 2\nalloc v5 p 2\nalloc v6 p 3\nfree v3\nalloc v6 p 3\nalloc v7 q 5\nsend v7 a\nsend v0 a\nend\nbody x receive\nsay size\nsay word sub size 1\nsay word 15\nsay word 16\nalloc v0 q 1\nsend v0 o\nalloc v0 q 1\nsay v0\nend\ndone\n",
