@@ -1,30 +1,24 @@
 -- The best queue, by the sets of the queues in which something waits.
-use Rattle.std.proofs.Common.{◌≡◌, ℕ, ◌+◌, ◌-◌, ◌<◌, ◌≤◌, ◌&&◌, ◌||◌, nat_lt, Bool, true, false, List, length, get_or, if◌then◌else◌, Option, Some, None, arith, refl, ap, sym, ◌∙◌, subst, ⊎_elim}
+use Rattle.std.proofs.Common.{◌≡◌, ℕ, ◌+◌, ◌-◌, ◌<◌, ◌≤◌, ◌&&◌, ◌||◌, nat_lt, Bool, true, false, List, length, if◌then◌else◌, Option, Some, None, arith, refl, ap, sym, ◌∙◌, subst, ⊎_elim}
 use Rattle.std.specs.Prelude.{slice_get, MatchOption}
 use Rattle.std.specs.Option.{is_some, option_map, option_map_or, option_and_then}
 use Rattle.std.proofs.lemmas.Bool.{cases_eq, cases_lt, eq-eqb, eqb-true, lt-ltb, le-ltb}
-use Rattle.std.proofs.lemmas.List.{get_or_read}
 use Rattle.em_log.specs.declared.declarations.Declarations.{Declarations}
 use Rattle.em_log.specs.declared.declarations.QueueShape.{QueueShape}
 use Rattle.em_log.specs.declared.ids.Kind.{Kind}
 use Rattle.em_log.specs.declared.ids.QueueId.{QueueId}
 use Rattle.em_log.specs.declared.graph.Priority.{Priority}
 use Rattle.em_log.specs.Declarations.{kind_of, rank_of, is_local, is_served, rank}
-use Rattle.em_queues.specs.declared.cores.CoreQueues.{CoreQueues}
 use Rattle.em_queues.specs.declared.set.QueueSet.{QueueSet}
-use Rattle.em_queues.specs.declared.waiting.ListScope.{ListScope}
+use Rattle.em_queues.specs.Waiting.{ListScope}
 use Rattle.em_queues.specs.Sets.{contains, IsLeast}
 use Rattle.em_queues.specs.Steps.{QueueStep, lists}
 use Rattle.em_queues.specs.Best.{can_serve, IsNoneReady, IsBest}
-use Rattle.em_queues.specs.State.{QueueState, core_in, core_at, no_core, items_at, items_by}
+use Rattle.em_queues.specs.State.{QueueState, core_at, items_at, items_by}
 use Rattle.em_queues.specs.Ready.{is_ranked}
 use Rattle.em_queues.specs.Waiting.{list_in, is_ready, rank_in, rank_or_lowest}
 use Rattle.em_queues.specs.Changes.{lesser_number}
 use Rattle.em_queues.specs.Stands.{Stands, declared_rank}
-
--- the core that is read
-pub core-read : (cores : List CoreQueues) (i c : ℕ) (l : CoreQueues) → i ≡ c → c < length cores → l ≡ get_or cores i l → l ≡ core_in cores c
-core-read cores i c l at lt read = get_or_read cores c l lt (read ∙ ap (λ k. get_or cores k l) at) no_core
 
 -- truth
 

@@ -5,15 +5,15 @@ use Rattle.std.proofs.lemmas.Bool.{cases_eq}
 use Rattle.std.proofs.lemmas.List.{get_or-set_same, get_or-set_other, length-set}
 use Rattle.em_log.specs.declared.declarations.Declarations.{Declarations}
 use Rattle.em_log.specs.Declarations.{kind_of, is_local}
-use Rattle.em_queues.specs.declared.cores.CoreQueues.{CoreQueues}
+use Rattle.em_queues.specs.Cores.{CoreQueues}
 use Rattle.em_queues.specs.Steps.{QueueStep, Arrived, Took, Untook}
-use Rattle.em_queues.specs.State.{QueueState, kind_at, core_in, core_at, items_at, items_by, taken_at, source_at, is_listed_at, no_core}
+use Rattle.em_queues.specs.State.{QueueState, kind_at, core_in, core_at, items_at, items_by, taken_at, source_at, is_listed_at}
+use Rattle.em_queues.specs.Cores.{no_core}
 use Rattle.em_queues.specs.Waiting.{items_in, with_items}
 use Rattle.em_queues.specs.Changes.{arrived_local, arrived_shared, took_local, took_shared, gave_local, gave_shared}
 use Rattle.em_queues.specs.Stands.{Stands}
 use Rattle.em_queues.proofs.ListChanges.{Relisted, relisted-shared, relisted-local}
-use Rattle.em_queues.proofs.Stands.{arrived-stands, took-stands, untook-stands}
-use Rattle.em_queues.proofs.WholeLemmas.{node-there}
+use Rattle.em_queues.proofs.Stands.{unlisted-there, arrived-stands, took-stands, untook-stands}
 
 kept : {X : Type 0} (f : CoreQueues → X) (cores : List CoreQueues) (c : ℕ) (slot : CoreQueues) → c < length cores → f slot ≡ f (core_in cores c) → (d : ℕ)
     → f (core_in (set cores c slot) d) ≡ f (core_in cores d)
@@ -40,7 +40,7 @@ module _ {k : Declarations} {v : QueueState} {s : List QueueStep} (stands : Stan
       (length-set v.cores c (record (core_at v c) { local = with_items (core_at v c).local q (items_in (core_at v c).local q ++ i ∷ []) }))
       (kept (λ (x : CoreQueues). x.taken) v.cores c (record (core_at v c) { local = with_items (core_at v c).local q (items_in (core_at v c).local q ++ i ∷ []) }) c_lt refl)
       (kept (λ (x : CoreQueues). option_map (λ y. y.0) x.source) v.cores c (record (core_at v c) { local = with_items (core_at v c).local q (items_in (core_at v c).local q ++ i ∷ []) }) c_lt refl)
-      refl (node-there v.nodes i free)
+      refl (unlisted-there v.listed i free)
 
   pub arrived-shared-stands : (i : ℕ) → is_local (kind_at v q) ≡ false → q < length v.shared → is_listed_at v i ≡ false
       → Stands k (arrived_shared v q i) (Arrived q c i ∷ s)
@@ -48,7 +48,7 @@ module _ {k : Declarations} {v : QueueState} {s : List QueueStep} (stands : Stan
       arrived-stands stands q c i
       (subst (λ ys. Relisted k v (arrived_shared v q i) q c (ys ++ i ∷ [])) (sym (items_are false shared))
       (relisted-shared stands q c (items_in v.shared q ++ i ∷ []) q_lt (kind_is false shared) (λ r. refl) refl (λ d. refl)))
-      refl (λ d. refl) (λ d. refl) refl (node-there v.nodes i free)
+      refl (λ d. refl) (λ d. refl) refl (unlisted-there v.listed i free)
 
   pub took-local-stands : (n : ℕ) → is_local (kind_at v q) ≡ true → c < length v.cores → q < length (core_at v c).local
       → Stands k (took_local v q c n) (Took c q n ∷ s)

@@ -1,50 +1,67 @@
 -- At the opening, the queues stand for no steps.
-use Rattle.std.proofs.Common.{◌≡◌, ℕ, zero, suc, ◌+◌, ◌*◌, ◌<◌, ◌≤◌, false, Bool, true, List, [], ◌∷◌, length, map, All, get_or, replicate, Some, None, arith, refl, ap, sym, ◌∙◌, subst, ⊎_elim}
+use Rattle.std.proofs.Common.{◌≡◌, ℕ, zero, suc, ◌+◌, ◌*◌, ◌<◌, ◌≤◌, Bool, true, false, List, [], ◌∷◌, length, map, get_or, replicate, Option, Some, None, arith, refl, ap, sym, ◌∙◌, subst, ⊎_elim}
 use Rattle.std.proofs.Math.ListN.{get_or-eq_default}
 use Rattle.std.proofs.lemmas.Bool.{cases_lt}
 use Rattle.std.proofs.lemmas.List.{length-map, length-replicate, get_or-replicate}
-use Rattle.std.proofs.lemmas.List.Sums.{sum_by-cons}
-use Rattle.std.proofs.lemmas.List.Folds.{sum_by-replicate}
 use Rattle.std.specs.Prelude.{slice_get}
 use Rattle.std.specs.Option.{option_map, option_map_or, option_and_then}
 use Rattle.em_log.specs.declared.declarations.Declarations.{Declarations}
 use Rattle.em_log.specs.declared.graph.QueueDecl.{QueueDecl}
+use Rattle.em_log.specs.declared.graph.Priority.{Priority}
 use Rattle.em_log.specs.declared.ids.Kind.{Kind}
 use Rattle.em_log.specs.declared.ids.QueueId.{QueueId}
 use Rattle.em_log.specs.Declarations.{is_local, queue_shape}
-use Rattle.em_queues.specs.declared.cores.CoreQueues.{CoreQueues}
-use Rattle.em_queues.specs.declared.waiting.WaitingList.{WaitingList}
-use Rattle.em_queues.specs.declared.waiting.ListScope.{ListScope}
-use Rattle.em_queues.specs.State.{core_in, items_by, is_nil, no_core, opened_core, kind_of_decl}
-use Rattle.em_queues.specs.Waiting.{list_in, items_in, opened_list}
+use Rattle.em_queues.specs.declared.set.QueueSet.{QueueSet}
+use Rattle.em_queues.specs.declared.kinds.RankedKind.{RankedKind}
+use Rattle.em_queues.specs.declared.cores.CoreSlot.{CoreSlot}
+use Rattle.em_queues.specs.Events.{EventState}
+use Rattle.em_queues.specs.Ready.{has_ready}
+use Rattle.em_queues.specs.Waiting.{ListScope, AreIndexed, list_in, items_in, opened_list, rank_in, rank_in_queue}
+use Rattle.em_queues.specs.Cores.{CoreQueues, no_core}
+use Rattle.em_queues.specs.State.{QueueState, shape, core_in, items_by, opened_core, kind_of_decl}
+use Rattle.em_queues.specs.Rows.{ranked_kind, kind_of_ranked, scoped, lists_from, cores_from, queues_from, slot_in, AreIdle}
 use Rattle.em_queues.specs.Stands.{Stands, declared_rank}
-use Rattle.em_queues.specs.Whole.{IsWhole, list_total, core_total, node_total}
-use Rattle.em_queues.proofs.WaitingLemmas.{opened-empty}
-
--- the nodes
-
-nodes-total : (nodes : List (List ℕ)) → All (λ r. length r ≡ 1) nodes → node_total nodes ≡ length nodes
-nodes-total [] all = refl
-nodes-total (r ∷ rs) all =
-    let here : length r ≡ 1 = all 0 [] (omega arith) in
-    let rest = nodes-total rs (λ k d lt. all (suc k) d (omega arith)) in
-    sum_by-cons length r rs ∙ omega (arith, here, rest)
-
-nodes-single : (nodes : List (List ℕ)) (i : ℕ) → All (λ r. length r ≡ 1) nodes → length (get_or nodes i []) ≤ 1
-nodes-single nodes i all =
-    ⊎_elim (λ lt. let one : length (get_or nodes i []) ≡ 1 = all i [] lt in omega arith)
-    (λ ge. let none : length (get_or nodes i []) ≡ 0 = ap length (get_or-eq_default nodes [] ge) in omega arith) (cases_lt i (length nodes))
-
-not_nil : (l : List ℕ) → length l ≡ 1 → is_nil l ≡ false
-not_nil [] e = absurd (omega arith)
-not_nil (x ∷ xs) e = refl
+use Rattle.em_queues.specs.Whole.{IsWhole, AreWhole}
+use Rattle.em_queues.proofs.EmptyLists.{empty-list}
+use Rattle.em_queues.proofs.WaitingLemmas.{opened-empty, opened-indexed}
 
 -- the lists
 
-lists-total : (scope : ListScope) (ds : List QueueDecl) → list_total (map (opened_list scope) ds) ≡ 0
-lists-total scope [] = refl
-lists-total scope (d ∷ ds) =
-    let rest = lists-total scope ds in sum_by-cons (λ (l : WaitingList). length l.items) (opened_list scope d) (map (opened_list scope) ds) ∙ omega arith
+scoped-rank : (kind : Kind) (p : Option Priority) (scope : ListScope) → scoped scope (record { kind = kind; rank = rank_in_queue kind p }) ≡ rank_in kind p scope
+scoped-rank Kind.Atomic p ListScope.Local = refl
+scoped-rank Kind.Atomic p ListScope.Shared = refl
+scoped-rank Kind.Parallel p ListScope.Local = refl
+scoped-rank Kind.Parallel p ListScope.Shared = refl
+scoped-rank Kind.Ordered p ListScope.Local = refl
+scoped-rank Kind.Ordered p ListScope.Shared = refl
+scoped-rank Kind.Local p ListScope.Local = refl
+scoped-rank Kind.Local p ListScope.Shared = refl
+scoped-rank Kind.Unscheduled p ListScope.Local = refl
+scoped-rank Kind.Unscheduled p ListScope.Shared = refl
+scoped-rank Kind.Output p ListScope.Local = refl
+scoped-rank Kind.Output p ListScope.Shared = refl
+
+opened-lists : (n : ℕ) (scope : ListScope) (ds : List QueueDecl) (k : ℕ) → lists_from (replicate n []) scope (map ranked_kind ds) k ≡ map (opened_list scope) ds
+opened-lists n scope [] k = refl
+opened-lists n scope (d ∷ ds) k =
+    λ i. record { rank = scoped-rank d.kind d.priority scope i; items = empty-list n k i } ∷ opened-lists n scope ds (suc k) i
+
+opened-kinds : (ds : List QueueDecl) → map kind_of_ranked (map ranked_kind ds) ≡ map kind_of_decl ds
+opened-kinds [] = refl
+opened-kinds (d ∷ ds) = λ i. d.kind ∷ opened-kinds ds i
+
+opened-cores : (m : ℕ) (ds : List QueueDecl) (n : ℕ) (slots : List CoreSlot) (k : ℕ) → AreIdle n slots
+    → cores_from (replicate m []) (map ranked_kind ds) slots k ≡ replicate n (opened_core ds)
+opened-cores m ds zero [] k idle = refl
+opened-cores m ds zero (s ∷ ss) k idle = absurd (let n = idle.count in omega arith)
+opened-cores m ds (suc n) [] k idle = absurd (let n = idle.count in omega arith)
+opened-cores m ds (suc n) (s ∷ ss) k idle =
+    λ i. record {
+      local = opened-lists m ListScope.Local ds k i;
+      taken = empty-list m (k + 256) i;
+      source = (idle.each 0 (omega arith)).unsourced i;
+    }
+    ∷ opened-cores m ds n ss (k + 257) (record { count = (let all = idle.count in omega arith); each = λ c lt. idle.each (suc c) (omega arith) }) i
 
 kinds-read : (ds : List QueueDecl) (q : ℕ) → get_or (map kind_of_decl ds) q Kind.Unscheduled ≡ option_map_or (λ d. d.kind) (slice_get (map queue_shape ds) q) Kind.Unscheduled
 kinds-read [] q = refl
@@ -55,6 +72,9 @@ ranks-read : (scope : ListScope) (ds : List QueueDecl) (q : ℕ) → (list_in (m
 ranks-read scope [] q = refl
 ranks-read scope (d ∷ ds) zero = refl
 ranks-read scope (d ∷ ds) (suc q) = ranks-read scope ds q
+
+none-listed : (n i : ℕ) → i < n → get_or (replicate n false) i true ≡ false
+none-listed n i lt = get_or-replicate n i false true lt
 
 -- the cores
 
@@ -68,54 +88,71 @@ each-core n ds P none some c =
     (λ ge. subst P (sym (get_or-eq_default (replicate n (opened_core ds)) no_core (let l = length-replicate n (opened_core ds) in omega arith))) none)
     (cases_lt c n)
 
-module _ (k : Declarations) (n : ℕ) (ds : List QueueDecl) (kinds : List Kind) (shared : List WaitingList) (cores : List CoreQueues) (nodes : List (List ℕ))
-    (kinds_are : kinds ≡ map kind_of_decl ds) (shared_are : shared ≡ map (opened_list ListScope.Shared) ds) (cores_are : cores ≡ replicate n (opened_core ds))
-    (single : All (λ r. length r ≡ 1) nodes) where
-  each : (P : CoreQueues → Type 0) → P no_core → P (opened_core ds) → (c : ℕ) → P (core_in cores c)
-  each P none some c = subst (λ cs. P (core_in cs c)) (sym cores_are) (each-core n ds P none some c)
+module _ (n : ℕ) (ds : List QueueDecl) (m : ℕ) where
+  abbrev pub opened : QueueState
+  opened = record { kinds = map kind_of_decl ds; shared = map (opened_list ListScope.Shared) ds; cores = replicate n (opened_core ds); listed = replicate m false }
 
-  none-waits : (b : Bool) (q c : ℕ) → items_by b (record { kinds = kinds; shared = shared; cores = cores; nodes = nodes }) q c ≡ []
-  none-waits true q c = each (λ x. items_in x.local q ≡ []) refl (opened-empty ListScope.Local ds q) c
-  none-waits false q c = ap (λ ls. items_in ls q) shared_are ∙ opened-empty ListScope.Shared ds q
+  none-waits : (b : Bool) (q c : ℕ) → items_by b opened q c ≡ []
+  none-waits true q c = each-core n ds (λ x. items_in x.local q ≡ []) refl (opened-empty ListScope.Local ds q) c
+  none-waits false q c = opened-empty ListScope.Shared ds q
 
-  pub opened-stands : k.queues ≡ map queue_shape ds → Stands k (record { kinds = kinds; shared = shared; cores = cores; nodes = nodes }) []
-  opened-stands queues = record {
-    kinds = λ q.
-        ap (λ ks. get_or ks q Kind.Unscheduled) kinds_are
-        ∙ (kinds-read ds q ∙ ap (λ shapes. option_map_or (λ d. d.kind) (slice_get shapes q) Kind.Unscheduled) (sym queues));
-    shared_ranks = λ q.
-        ap (λ ls. (list_in ls q).rank) shared_are
-        ∙ (ranks-read ListScope.Shared ds q ∙ ap (λ shapes. option_and_then (declared_rank ListScope.Shared) (slice_get shapes q)) (sym queues));
+  pub opened-stands : (k : Declarations) → k.queues ≡ map queue_shape ds → Stands k opened []
+  opened-stands k queues = record {
+    kinds = λ q. kinds-read ds q ∙ ap (λ shapes. option_map_or (λ d. d.kind) (slice_get shapes q) Kind.Unscheduled) (sym queues);
+    shared_ranks = λ q. ranks-read ListScope.Shared ds q ∙ ap (λ shapes. option_and_then (declared_rank ListScope.Shared) (slice_get shapes q)) (sym queues);
     local_ranks = λ c q lt.
-        ap (λ cs. (list_in (core_in cs c).local q).rank) cores_are
-        ∙ (ap (λ (x : CoreQueues). (list_in x.local q).rank)
-        (core-read n ds c (let l : length cores ≡ n = ap length cores_are ∙ length-replicate n (opened_core ds) in omega arith))
-        ∙ (ranks-read ListScope.Local ds q ∙ ap (λ shapes. option_and_then (declared_rank ListScope.Local) (slice_get shapes q)) (sym queues)));
-    waiting = λ q c. none-waits (is_local (get_or kinds q Kind.Unscheduled)) q c;
-    taken = each (λ x. x.taken ≡ []) refl refl;
-    sources = each (λ x. option_map (λ q. q.0) x.source ≡ None) refl refl;
-    listed = λ i lt. not_nil (get_or nodes i []) (single i [] lt);
+        ap (λ (x : CoreQueues). (list_in x.local q).rank)
+        (core-read n ds c (let l = length-replicate n (opened_core ds) in omega arith))
+        ∙ (ranks-read ListScope.Local ds q ∙ ap (λ shapes. option_and_then (declared_rank ListScope.Local) (slice_get shapes q)) (sym queues));
+    waiting = λ q c. none-waits (is_local (get_or (map kind_of_decl ds) q Kind.Unscheduled)) q c;
+    taken = each-core n ds (λ x. x.taken ≡ []) refl refl;
+    sources = each-core n ds (λ x. option_map (λ q. q.0) x.source ≡ None) refl refl;
+    listed = λ i lt. none-listed m i (let l = length-replicate m false in omega arith);
   }
 
-  pub opened-whole : length nodes ≤ 4096 → IsWhole kinds shared cores nodes
-  opened-whole few = record {
-    shared_lists = ap length shared_are ∙ (length-map ds (opened_list ListScope.Shared) ∙ sym (ap length kinds_are ∙ length-map ds kind_of_decl));
+  pub opened-whole : (ready : List QueueSet) (slots : List CoreSlot) → length ds ≤ 256 → ((r q : ℕ) → has_ready ready r q ≡ false) → AreIdle n slots
+      → IsWhole opened (257 * (n + 1)) ready slots
+  opened-whole ready slots few none idle = record {
+    shared_lists = length-map ds (opened_list ListScope.Shared) ∙ sym (length-map ds kind_of_decl);
     local_lists = λ c lt.
-        ap (λ cs. length (core_in cs c).local) cores_are
-        ∙ (ap (λ (x : CoreQueues). length x.local)
-        (core-read n ds c (let l : length cores ≡ n = ap length cores_are ∙ length-replicate n (opened_core ds) in omega arith))
-        ∙ (length-map ds (opened_list ListScope.Local) ∙ sym (ap length kinds_are ∙ length-map ds kind_of_decl)));
-    named = each (λ x. (q : QueueId) → x.source ≡ Some q → q.0 < length kinds) (λ q e. absurd (cc e)) (λ q e. absurd (cc e));
-    unsourced = each (λ x. x.source ≡ None → x.taken ≡ []) (λ _. refl) (λ _. refl);
-    few_taken = each (λ x. length x.taken ≤ 255) (omega arith) (omega arith);
-    single = λ i. nodes-single nodes i single;
-    enough =
-        let lists : list_total shared ≡ 0 = ap list_total shared_are ∙ lists-total ListScope.Shared ds in
-        let local = lists-total ListScope.Local ds in
-        let one : list_total (map (opened_list ListScope.Local) ds) + 0 ≡ 0 = omega arith in
-        let all : core_total cores ≡ n * (list_total (map (opened_list ListScope.Local) ds) + 0) =
-        ap core_total cores_are ∙ sum_by-replicate (λ (x : CoreQueues). list_total x.local + length x.taken) n (opened_core ds) in
-        let none : core_total cores ≡ 0 = all ∙ (ap (λ m. n * m) one ∙ omega arith) in
-        let total = nodes-total nodes single in omega arith;
-    few = few;
+        ap (λ (x : CoreQueues). length x.local)
+        (core-read n ds c (let l = length-replicate n (opened_core ds) in omega arith))
+        ∙ (length-map ds (opened_list ListScope.Local) ∙ sym (length-map ds kind_of_decl));
+    lists = ap (λ k. 257 * (k + 1)) (sym (length-replicate n (opened_core ds)));
+    shared_ready = opened-indexed ListScope.Shared ds ready few none;
+    local_ready = λ c lt.
+        let within : c < n = (let l = length-replicate n (opened_core ds) in omega arith) in
+        subst (λ (x : CoreQueues). AreIndexed x.local (slot_in slots c).ready) (sym (core-read n ds c within))
+        (opened-indexed ListScope.Local ds (slot_in slots c).ready few (idle.each c within).none_ready);
+    named = each-core n ds (λ x. (q : QueueId) → x.source ≡ Some q → q.0 < length (map kind_of_decl ds)) (λ q e. absurd (cc e)) (λ q e. absurd (cc e));
+    unsourced = each-core n ds (λ x. x.source ≡ None → x.taken ≡ []) (λ _. refl) (λ _. refl);
+    few_taken = each-core n ds (λ x. length x.taken ≤ 255) (omega arith) (omega arith);
   }
+
+-- as the code has it: so many empty lists of events, and cores that are idle
+module _ (n : ℕ) (ds : List QueueDecl) (m : ℕ) (kinds : List RankedKind) (count : ℕ) (state : EventState) (slots : List CoreSlot) (kinds_are : kinds ≡ map ranked_kind ds)
+    (state_is : state ≡ record { lists = replicate count []; listed = replicate m false }) (count_is : count ≡ 257 * (n + 1)) (idle : AreIdle n slots) where
+  pub opened-read : queues_from kinds state slots ≡ opened n ds m
+  opened-read =
+      ap (λ ks. queues_from ks state slots) kinds_are
+      ∙ (ap (λ (e : EventState). queues_from (map ranked_kind ds) e slots) state_is
+      ∙ (λ i. record {
+        kinds = opened-kinds ds i;
+        shared = opened-lists count ListScope.Shared ds 0 i;
+        cores = opened-cores count ds n slots 257 idle i;
+        listed = replicate m false;
+      }))
+
+  pub whole-read : (ready : List QueueSet) → length ds ≤ 256 → ((r q : ℕ) → has_ready ready r q ≡ false) → AreWhole kinds state ready slots
+  whole-read ready few none =
+      subst (λ (v : QueueState). IsWhole v (length state.lists) ready slots) (sym opened-read)
+      (subst (λ k. IsWhole (opened n ds m) k ready slots) (sym (ap (λ (e : EventState). length e.lists) state_is ∙ (length-replicate count [] ∙ count_is)))
+      (opened-whole n ds m ready slots few none idle))
+
+  pub shape-read : shape (queues_from kinds state slots) ≡ record { cores = n; queues = length ds; events = m }
+  shape-read =
+      ap shape opened-read
+      ∙ (λ i. record { cores = length-replicate n (opened_core ds) i; queues = length-map ds kind_of_decl i; events = length-replicate m false i })
+
+  pub stands-read : (k : Declarations) → k.queues ≡ map queue_shape ds → Stands k (queues_from kinds state slots) []
+  stands-read k queues = subst (λ (v : QueueState). Stands k v []) (sym opened-read) (opened-stands n ds m k queues)

@@ -1,15 +1,21 @@
 -- After an event has arrived, or a core has taken events or given them back, the queues stand for one step more.
-use Rattle.std.proofs.Common.{◌≡◌, ℕ, ◌<◌, ◌==◌, ◌||◌, Bool, false, List, [], ◌∷◌, ◌++◌, length, get_or, set, take, drop, if◌then◌else◌, Some, None, refl, ap, sym, ◌∙◌, subst, ⊎_elim}
+use Rattle.std.proofs.Common.{◌≡◌, ℕ, ◌<◌, ◌==◌, ◌||◌, Bool, true, false, List, [], ◌∷◌, ◌++◌, length, get_or, set, take, drop, if◌then◌else◌, Some, None, refl, ap, sym, ◌∙◌, subst, ⊎_elim}
 use Rattle.std.specs.Option.{option_map, option_map_or}
-use Rattle.std.proofs.lemmas.Bool.{cases_eq, eq-eqb, ne_eqb}
-use Rattle.std.proofs.lemmas.List.{get_or-set_same, get_or-set_other, length-set}
+use Rattle.std.proofs.lemmas.Bool.{cases_eq, cases_lt, eq-eqb, ne_eqb}
+use Rattle.std.proofs.lemmas.List.{get_or-set_same, get_or-set_other, get_or_past, length-set}
 use Rattle.em_log.specs.declared.declarations.Declarations.{Declarations}
 use Rattle.em_log.specs.Arrivals.{is_for}
-use Rattle.em_queues.specs.declared.cores.CoreQueues.{CoreQueues}
+use Rattle.em_queues.specs.Cores.{CoreQueues}
 use Rattle.em_queues.specs.Steps.{QueueStep, Arrived, Took, Untook, lists, is_listed}
-use Rattle.em_queues.specs.State.{QueueState, core_in, core_at, items_at, taken_at, source_at, is_nil, no_core}
+use Rattle.em_queues.specs.State.{QueueState, core_in, core_at, items_at, taken_at, source_at}
+use Rattle.em_queues.specs.Cores.{no_core}
 use Rattle.em_queues.specs.Stands.{Stands}
 use Rattle.em_queues.proofs.ListChanges.{Relisted, relisted-waiting}
+
+-- an event that is in no list is there
+pub unlisted-there : (listed : List Bool) (i : ℕ) → get_or listed i true ≡ false → i < length listed
+unlisted-there listed i free =
+    ⊎_elim (λ lt. lt) (λ past. absurd (let none = get_or_past listed i true past in cc (none, free))) (cases_lt i (length listed))
 
 -- one core changes
 
@@ -27,9 +33,9 @@ chosen b x y z e = ap (λ (m : _). if b then m else z) e
 
 module _ {k : Declarations} {v : QueueState} {s : List QueueStep} (stands : Stands k v s) where
   pub arrived-stands : {w : QueueState} (q c i : ℕ) → Relisted k v w q c (items_at v q c ++ i ∷ []) → length w.cores ≡ length v.cores
-      → ((d : ℕ) → taken_at w d ≡ taken_at v d) → ((d : ℕ) → source_at w d ≡ source_at v d) → w.nodes ≡ set v.nodes i [] → i < length v.nodes
+      → ((d : ℕ) → taken_at w d ≡ taken_at v d) → ((d : ℕ) → source_at w d ≡ source_at v d) → w.listed ≡ set v.listed i true → i < length v.listed
       → Stands k w (Arrived q c i ∷ s)
-  arrived-stands {w} q c i relisted cores taken sources nodes there = record {
+  arrived-stands {w} q c i relisted cores taken sources listed there = record {
     kinds = λ r. relisted.kinds r ∙ stands.kinds r;
     shared_ranks = λ r. relisted.shared_ranks r ∙ stands.shared_ranks r;
     local_ranks = λ d r lt. relisted.local_ranks d r ∙ stands.local_ranks d r (subst (λ n. d < n) cores lt);
@@ -37,18 +43,18 @@ module _ {k : Declarations} {v : QueueState} {s : List QueueStep} (stands : Stan
     taken = λ d. taken d ∙ stands.taken d;
     sources = λ d. sources d ∙ stands.sources d;
     listed = λ j lt.
-        ap (λ rs. is_nil (get_or rs j [])) nodes
+        ap (λ bs. get_or bs j true) listed
         ∙ ⊎_elim
-        (λ same. subst (λ m. is_nil (get_or (set v.nodes i []) m []) ≡ ((i == m) || is_listed k s m)) same
-        (ap is_nil (get_or-set_same v.nodes i [] [] there) ∙ sym (ap (λ b. b || is_listed k s i) (eq-eqb i i refl))))
-        (λ ne. ap is_nil (get_or-set_other v.nodes i j [] [] (λ e. ne (sym e)))
-        ∙ (stands.listed j (subst (λ n. j < n) (ap length nodes ∙ length-set v.nodes i []) lt) ∙ sym (ap (λ b. b || is_listed k s j) (ne_eqb i j ne))))
+        (λ same. subst (λ m. get_or (set v.listed i true) m true ≡ ((i == m) || is_listed k s m)) same
+        (get_or-set_same v.listed i true true there ∙ sym (ap (λ b. b || is_listed k s i) (eq-eqb i i refl))))
+        (λ ne. get_or-set_other v.listed i j true true (λ e. ne (sym e))
+        ∙ (stands.listed j (subst (λ n. j < n) (ap length listed ∙ length-set v.listed i true) lt) ∙ sym (ap (λ b. b || is_listed k s j) (ne_eqb i j ne))))
         (cases_eq i j);
   }
 
   pub took-stands : {w : QueueState} (q c n : ℕ) (slot : CoreQueues) → Relisted k v w q c (drop n (items_at v q c)) → c < length v.cores → w.cores ≡ set v.cores c slot
-      → slot.taken ≡ take n (items_at v q c) → slot.source ≡ Some (record { 0 = q }) → w.nodes ≡ v.nodes → Stands k w (Took c q n ∷ s)
-  took-stands {w} q c n slot relisted lt cores taken source nodes = record {
+      → slot.taken ≡ take n (items_at v q c) → slot.source ≡ Some (record { 0 = q }) → w.listed ≡ v.listed → Stands k w (Took c q n ∷ s)
+  took-stands {w} q c n slot relisted lt cores taken source listed = record {
     kinds = λ r. relisted.kinds r ∙ stands.kinds r;
     shared_ranks = λ r. relisted.shared_ranks r ∙ stands.shared_ranks r;
     local_ranks = λ d r less. relisted.local_ranks d r ∙ stands.local_ranks d r (subst (λ m. d < m) (ap length cores ∙ length-set v.cores c slot) less);
@@ -61,12 +67,12 @@ module _ {k : Declarations} {v : QueueState} {s : List QueueStep} (stands : Stan
         ap (λ cs. option_map (λ x. x.0) (core_in cs d).source) cores
         ∙ (by_core (λ (x : CoreQueues). option_map (λ y. y.0) x.source) v.cores c slot lt d
         ∙ (λ j. if c == d then ap (option_map (λ y. y.0)) source j else stands.sources d j));
-    listed = λ j less. ap (λ rs. is_nil (get_or rs j [])) nodes ∙ stands.listed j (subst (λ rs. j < length rs) nodes less);
+    listed = λ j less. ap (λ bs. get_or bs j true) listed ∙ stands.listed j (subst (λ bs. j < length bs) listed less);
   }
 
   pub untook-stands : {w : QueueState} (q c : ℕ) (slot : CoreQueues) → Relisted k v w q c (taken_at v c ++ items_at v q c) → source_at v c ≡ Some q → c < length v.cores
-      → w.cores ≡ set v.cores c slot → slot.taken ≡ [] → slot.source ≡ (core_at v c).source → w.nodes ≡ v.nodes → Stands k w (Untook c ∷ s)
-  untook-stands {w} q c slot relisted from lt cores taken source nodes = record {
+      → w.cores ≡ set v.cores c slot → slot.taken ≡ [] → slot.source ≡ (core_at v c).source → w.listed ≡ v.listed → Stands k w (Untook c ∷ s)
+  untook-stands {w} q c slot relisted from lt cores taken source listed = record {
     kinds = λ r. relisted.kinds r ∙ stands.kinds r;
     shared_ranks = λ r. relisted.shared_ranks r ∙ stands.shared_ranks r;
     local_ranks = λ d r less. relisted.local_ranks d r ∙ stands.local_ranks d r (subst (λ m. d < m) (ap length cores ∙ length-set v.cores c slot) less);
@@ -85,7 +91,7 @@ module _ {k : Declarations} {v : QueueState} {s : List QueueStep} (stands : Stan
         (ap (λ (x : CoreQueues). option_map (λ y. y.0) x.source) (get_or-set_same v.cores c slot no_core lt) ∙ ap (option_map (λ y. y.0)) source))
         (λ ne. ap (λ (x : CoreQueues). option_map (λ y. y.0) x.source) (get_or-set_other v.cores c d slot no_core (λ e. ne (sym e)))) (cases_eq c d)
         ∙ stands.sources d);
-    listed = λ j less. ap (λ rs. is_nil (get_or rs j [])) nodes ∙ stands.listed j (subst (λ rs. j < length rs) nodes less);
+    listed = λ j less. ap (λ bs. get_or bs j true) listed ∙ stands.listed j (subst (λ bs. j < length bs) listed less);
   }
 
   -- a core that never took gives nothing back

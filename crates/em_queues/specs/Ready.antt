@@ -1,5 +1,5 @@
 -- A set of queues for each priority.
-use Rattle.std.specs.Prelude.{ℕ, ◌≡◌, ◌==◌, Bool, true, false, List, [], slice_index_or, Option, Some, None, refl}
+use Rattle.std.specs.Prelude.{ℕ, ◌≡◌, ◌==◌, ◌&&◌, if◌then◌else◌, Bool, true, false, List, [], slice_index_or, Option, Some, None, refl}
 use Rattle.std.specs.Int.{bit_at}
 use Rattle.std.specs.Coded.{Coded, code_by, coded_ℕ, coded_list}
 use Rattle.em_queues.specs.declared.set.QueueSet.{QueueSet}
@@ -16,6 +16,11 @@ has_ready sets r q = contains (slice_index_or sets r no_queues) q
 abbrev pub is_ranked : ℕ → Option ℕ → Bool
 is_ranked r None = false
 is_ranked r (Some s) = r == s
+
+-- where it is so, the set of this priority tells of queue q what is given, and nothing else has changed
+abbrev pub IsMarked : List QueueSet → List QueueSet → ℕ → Option ℕ → Bool → Bool → Type 0
+IsMarked old new q rank is_so is_in =
+    (r p : ℕ) → has_ready new r p ≡ (if is_so && (is_ranked r rank && (p == q)) then is_in else has_ready old r p)
 
 -- the bit of each priority is set whose set has a queue
 abbrev pub AreNoted : List QueueSet → ℕ → Type 0

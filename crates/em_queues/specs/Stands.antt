@@ -4,10 +4,9 @@ use Rattle.std.specs.Option.{option_and_then}
 use Rattle.em_log.specs.declared.declarations.Declarations.{Declarations}
 use Rattle.em_log.specs.declared.declarations.QueueShape.{QueueShape}
 use Rattle.em_log.specs.Declarations.{kind_of}
-use Rattle.em_queues.specs.declared.waiting.ListScope.{ListScope}
 use Rattle.em_queues.specs.Steps.{QueueStep, lists, is_listed}
 use Rattle.em_queues.specs.State.{QueueState, kind_at, core_at, items_at, taken_at, source_at, is_listed_at}
-use Rattle.em_queues.specs.Waiting.{list_in, rank_in}
+use Rattle.em_queues.specs.Waiting.{ListScope, list_in, rank_in}
 
 abbrev pub declared_rank : ListScope → QueueShape → Option ℕ
 declared_rank scope d = rank_in d.kind d.priority scope
@@ -27,4 +26,4 @@ pub record Stands (k : Declarations) (v : QueueState) (steps : List QueueStep) :
   pub taken : (c : ℕ) → taken_at v c ≡ (lists k steps).taken c
   pub sources : (c : ℕ) → source_at v c ≡ (lists k steps).source c
   -- which events are in a list
-  pub listed : (i : ℕ) → i < length v.nodes → is_listed_at v i ≡ is_listed k steps i
+  pub listed : (i : ℕ) → i < length v.listed → is_listed_at v i ≡ is_listed k steps i

@@ -1,36 +1,30 @@
 -- What the queues mean: numbers and lists, and what can be read off them.
-use Rattle.std.specs.Prelude.{ℕ, Bool, true, false, List, [], ◌∷◌, length, map, slice_index_or, Option, None, refl}
+use Rattle.std.specs.Prelude.{ℕ, Bool, true, false, List, [], length, map, slice_index_or, Option, None, refl}
 use Rattle.std.specs.Option.{option_map}
-use Rattle.std.specs.Coded.{Coded, code_by, coded×, coded_ℕ, coded_list}
+use Rattle.std.specs.Coded.{Coded, code_by, coded×, coded_bool, coded_list}
 use Rattle.em_log.specs.declared.ids.Kind.{Kind}
 use Rattle.em_log.specs.declared.graph.QueueDecl.{QueueDecl}
 use Rattle.em_log.specs.Declarations.{is_local}
-use Rattle.em_queues.specs.declared.cores.CoreQueues.{CoreQueues}
-use Rattle.em_queues.specs.declared.waiting.WaitingList.{WaitingList}
-use Rattle.em_queues.specs.declared.waiting.ListScope.{ListScope}
+use Rattle.em_queues.specs.Cores.{CoreQueues, no_core}
 use Rattle.em_queues.specs.ListCode.{list_code}
 use Rattle.em_queues.specs.Codes.{kind_code, core_code}
-use Rattle.em_queues.specs.Waiting.{items_in, opened_list}
+use Rattle.em_queues.specs.Waiting.{WaitingList, ListScope, items_in, opened_list}
 
 -- the kind of each queue; the lists of those that are not local; each core with its lists of the local ones and what it
--- has taken; and for each event its node, while the event is in no list
+-- has taken; and for each event whether it is in a list
 pub record QueueState : Type 0 where
   pub kinds : List Kind
   pub shared : List WaitingList
   pub cores : List CoreQueues
-  pub nodes : List (List ℕ)
+  pub listed : List Bool
 
 abbrev pub state_code : Coded QueueState
 state_code =
-    code_by (List Kind × (List WaitingList × (List CoreQueues × List (List ℕ))))
-    (coded× (coded_list kind_code) (coded× (coded_list list_code) (coded× (coded_list core_code) (coded_list (coded_list coded_ℕ)))))
-    (λ v. (v.kinds, (v.shared, (v.cores, v.nodes))))
-    (λ p. record { kinds = p.0; shared = p.1.0; cores = p.1.1.0; nodes = p.1.1.1 })
+    code_by (List Kind × (List WaitingList × (List CoreQueues × List Bool)))
+    (coded× (coded_list kind_code) (coded× (coded_list list_code) (coded× (coded_list core_code) (coded_list coded_bool))))
+    (λ v. (v.kinds, (v.shared, (v.cores, v.listed))))
+    (λ p. record { kinds = p.0; shared = p.1.0; cores = p.1.1.0; listed = p.1.1.1 })
     (λ _. refl)
-
--- a core that is not there
-abbrev pub no_core : CoreQueues
-no_core = record { local = []; taken = []; source = None }
 
 -- a core that has taken nothing, and for which nothing waits
 abbrev pub opened_core : List QueueDecl → CoreQueues
@@ -65,13 +59,9 @@ taken_at v c = (core_at v c).taken
 abbrev pub source_at : QueueState → ℕ → Option ℕ
 source_at v c = option_map (λ q. q.0) (core_at v c).source
 
-abbrev pub is_nil : List ℕ → Bool
-is_nil [] = true
-is_nil (x ∷ xs) = false
-
 -- whether the event of this index is in a list; past the last one it is
 abbrev pub is_listed_at : QueueState → ℕ → Bool
-is_listed_at v i = is_nil (slice_index_or v.nodes i [])
+is_listed_at v i = slice_index_or v.listed i true
 
 -- the numbers of cores, queues and events
 pub record Shape : Type 0 where
@@ -80,4 +70,4 @@ pub record Shape : Type 0 where
   pub events : ℕ
 
 abbrev pub shape : QueueState → Shape
-shape v = record { cores = length v.cores; queues = length v.kinds; events = length v.nodes }
+shape v = record { cores = length v.cores; queues = length v.kinds; events = length v.listed }

@@ -6,9 +6,17 @@ use Rattle.em_log.specs.declared.graph.Priority.{Priority}
 use Rattle.em_log.specs.declared.graph.QueueDecl.{QueueDecl}
 use Rattle.em_log.specs.Declarations.{rank}
 use Rattle.em_queues.specs.declared.set.QueueSet.{QueueSet}
-use Rattle.em_queues.specs.declared.waiting.WaitingList.{WaitingList}
-use Rattle.em_queues.specs.declared.waiting.ListScope.{ListScope}
 use Rattle.em_queues.specs.Ready.{is_ranked, has_ready}
+
+-- what waits in a queue, and the queue's priority as a number, where cores take from this list
+pub record WaitingList : Type 0 where
+  pub rank : Option ℕ
+  pub items : List ℕ
+
+-- from which lists cores take: those of the local queues, or those of the scheduled ones
+pub data ListScope : Type 0 where
+  Local : ListScope
+  Shared : ListScope
 
 -- the list of a queue that is not there
 abbrev pub no_list : WaitingList
@@ -40,6 +48,14 @@ rank_in Kind.Atomic p ListScope.Shared = Some (rank_or_lowest p)
 rank_in Kind.Parallel p ListScope.Shared = Some (rank_or_lowest p)
 rank_in Kind.Ordered p ListScope.Shared = Some (rank_or_lowest p)
 rank_in kind p scope = None
+
+-- the priority of a queue, from which list of it cores may take
+abbrev pub rank_in_queue : Kind → Option Priority → Option ℕ
+rank_in_queue Kind.Atomic p = Some (rank_or_lowest p)
+rank_in_queue Kind.Parallel p = Some (rank_or_lowest p)
+rank_in_queue Kind.Ordered p = Some (rank_or_lowest p)
+rank_in_queue Kind.Local p = Some (rank_or_lowest p)
+rank_in_queue kind p = None
 
 abbrev pub opened_list : ListScope → QueueDecl → WaitingList
 opened_list scope d = record { rank = rank_in d.kind d.priority scope; items = [] }

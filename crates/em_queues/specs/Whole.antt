@@ -1,31 +1,26 @@
--- What is true of the fields of the queues.
-use Rattle.std.specs.Prelude.{ℕ, ◌≡◌, ◌+◌, ◌<◌, ◌≤◌, List, [], length, slice_index_or, Some, None}
-use Rattle.std.specs.List.{sum_by}
-use Rattle.em_log.specs.declared.ids.Kind.{Kind}
+-- What is true of the queues beside what they mean.
+use Rattle.std.specs.Prelude.{ℕ, ◌≡◌, ◌+◌, ◌*◌, ◌<◌, ◌≤◌, List, [], length, Some, None}
 use Rattle.em_log.specs.declared.ids.QueueId.{QueueId}
-use Rattle.em_queues.specs.declared.cores.CoreQueues.{CoreQueues}
-use Rattle.em_queues.specs.declared.waiting.WaitingList.{WaitingList}
-use Rattle.em_queues.specs.State.{core_in}
+use Rattle.em_queues.specs.declared.set.QueueSet.{QueueSet}
+use Rattle.em_queues.specs.declared.kinds.RankedKind.{RankedKind}
+use Rattle.em_queues.specs.declared.cores.CoreSlot.{CoreSlot}
+use Rattle.em_queues.specs.Events.{EventState}
+use Rattle.em_queues.specs.Waiting.{AreIndexed}
+use Rattle.em_queues.specs.State.{QueueState, core_at, taken_at}
+use Rattle.em_queues.specs.Rows.{queues_from, slot_in}
 
-abbrev pub list_total : List WaitingList → ℕ
-list_total lists = sum_by (λ l. length l.items) lists
-
-abbrev pub core_total : List CoreQueues → ℕ
-core_total cores = sum_by (λ c. list_total c.local + length c.taken) cores
-
-abbrev pub node_total : List (List ℕ) → ℕ
-node_total nodes = sum_by length nodes
-
-pub record IsWhole (kinds : List Kind) (shared : List WaitingList) (cores : List CoreQueues) (nodes : List (List ℕ)) : Type 0 where
-  -- there is a list for each queue, and one on each core
-  pub shared_lists : length shared ≡ length kinds
-  pub local_lists : (c : ℕ) → c < length cores → length (core_in cores c).local ≡ length kinds
+pub record IsWhole (v : QueueState) (count : ℕ) (ready : List QueueSet) (slots : List CoreSlot) : Type 0 where
+  -- there is a list for each queue, and one on each core, and as many lists of events
+  pub shared_lists : length v.shared ≡ length v.kinds
+  pub local_lists : (c : ℕ) → c < length v.cores → length (core_at v c).local ≡ length v.kinds
+  pub lists : count ≡ 257 * (length v.cores + 1)
+  -- the sets of queues in which something waits are exact
+  pub shared_ready : AreIndexed v.shared ready
+  pub local_ready : (c : ℕ) → c < length v.cores → AreIndexed (core_at v c).local (slot_in slots c).ready
   -- a core has taken from a queue that is there; one that never took has taken nothing
-  pub named : (c : ℕ) (q : QueueId) → (core_in cores c).source ≡ Some q → q.0 < length kinds
-  pub unsourced : (c : ℕ) → (core_in cores c).source ≡ None → (core_in cores c).taken ≡ []
-  pub few_taken : (c : ℕ) → length (core_in cores c).taken ≤ 255
-  -- an event that is in no list has one node, and any other none
-  pub single : (i : ℕ) → length (slice_index_or nodes i []) ≤ 1
-  -- no more nodes are there than events
-  pub enough : list_total shared + (core_total cores + node_total nodes) ≤ length nodes
-  pub few : length nodes ≤ 4096
+  pub named : (c : ℕ) (q : QueueId) → (core_at v c).source ≡ Some q → q.0 < length v.kinds
+  pub unsourced : (c : ℕ) → (core_at v c).source ≡ None → taken_at v c ≡ []
+  pub few_taken : (c : ℕ) → length (taken_at v c) ≤ 255
+
+abbrev pub AreWhole : List RankedKind → EventState → List QueueSet → List CoreSlot → Type 0
+AreWhole kinds events ready slots = IsWhole (queues_from kinds events slots) (length events.lists) ready slots

@@ -1,77 +1,56 @@
-//! What is kept of each core and each event.
-ghost use Rattle.std.specs.Prelude.{◌≡◌, ◌≤◌, IfOk, replicate, length, map, All, slice_set};
-ghost use Rattle.em_queues.specs.State.{opened_core, kind_of_decl};
+//! What is kept of each core.
+ghost use Rattle.std.specs.Prelude.{◌≡◌, ◌+◌, ◌*◌, IfOk};
+ghost use Rattle.em_queues.specs.Rows.{local_number, taken_number, AreIdle};
 
-use crate::index_list::IndexList;
-use crate::waiting::{ListScope, WaitingLists};
-use em_log::{Kind, NoMemory, QueueDecl, QueueId};
+use crate::ready::ReadySets;
+use em_log::{CoreId, NoMemory, QueueId};
 use std::alloc::Global;
 
-/// A core: its lists of the local queues, what it has taken, and the queue that it took that from.
+/// A core: the local queues in which something waits for it, and the queue that it took from last.
 #[derive(Drop)]
-pub struct CoreQueues {
-    pub local: WaitingLists,
-    pub taken: IndexList,
+pub struct CoreSlot {
+    pub ready: ReadySets,
     pub source: Option<QueueId>,
 }
 
-/// Cores that have taken nothing.
-pub fn idle_cores(
-    alloc: Global,
-    count: u8,
-    queues: &[QueueDecl],
-) -> Result<Vec<CoreQueues>, NoMemory>
-    requires { length queues.now ≤ 256 }
-    ensures { IfOk result (λ cores. cores.items ≡ replicate count (opened_core queues.now)) }
+/// How many lists each core has: one for each of 256 queues, and one of what it has taken. Those of the queues that are
+/// not local come before, in as many.
+const LISTS_EACH: usize = 257;
+
+/// How many lists so many cores have, with those of the queues that are not local.
+pub fn lists_of(cores: u8) -> usize
+    ensures { result ≡ 257 * (cores + 1) }
+{
+    LISTS_EACH * (usize::from(cores) + 1)
+}
+
+/// The number of the core's list of a local queue.
+pub fn local_list(core: CoreId, queue: QueueId) -> usize
+    ensures { result ≡ local_number core.0 queue.0 }
+{
+    lists_of(core.0) + usize::from(queue.0)
+}
+
+/// The number of the list of what the core has taken.
+pub fn taken_list(core: CoreId) -> usize
+    ensures { result ≡ taken_number core.0 }
+{
+    lists_of(core.0) + 256
+}
+
+/// Cores that have taken nothing, and for which nothing waits.
+pub fn idle_cores(alloc: Global, count: u8) -> Result<Vec<CoreSlot>, NoMemory>
+    ensures { IfOk result (λ cores. AreIdle count cores.items) }
 {
     let mut cores = Vec::new(alloc);
     if cores.reserve(usize::from(count)).is_err() {
         return Err(NoMemory);
     }
     for _ in 0..count {
-        cores.push_reserved(CoreQueues {
-            local: WaitingLists::build(alloc, queues, ListScope::Local)?,
-            taken: IndexList::empty(alloc),
+        cores.push_reserved(CoreSlot {
+            ready: ReadySets::none(),
             source: None,
         });
     }
     Ok(cores)
-}
-
-/// The kinds of these queues.
-pub fn kinds_of(alloc: Global, queues: &[QueueDecl]) -> Result<Vec<Kind>, NoMemory>
-    ensures { IfOk result (λ kinds. kinds.items ≡ map kind_of_decl queues.now) }
-{
-    let mut kinds = Vec::new(alloc);
-    if kinds.reserve(queues.len()).is_err() {
-        return Err(NoMemory);
-    }
-    for queue in queues {
-        kinds.push_reserved(queue.kind);
-    }
-    Ok(kinds)
-}
-
-/// A node for each event.
-pub fn nodes_for(alloc: Global, count: u16) -> Result<Vec<IndexList>, NoMemory>
-    ensures len { IfOk result (λ nodes. length nodes.items ≡ count) }
-    ensures single { IfOk result (λ nodes. All (λ r. length r ≡ 1) nodes.items) }
-{
-    let mut nodes = Vec::new(alloc);
-    if nodes.reserve(usize::from(count)).is_err() {
-        return Err(NoMemory);
-    }
-    for _ in 0..count {
-        nodes.push_reserved(IndexList::node(alloc)?);
-    }
-    Ok(nodes)
-}
-
-/// Puts the node in the place of this number, if there is one.
-pub fn put_back(nodes: &mut Vec<IndexList>, index: usize, node: IndexList)
-    ensures { nodes.new.items ≡ slice_set nodes.old.items index node }
-{
-    if index < nodes.len() {
-        nodes[index] = node;
-    }
 }

@@ -3,13 +3,13 @@
 #![tactic(auto)]
 
 mod bits;
-pub mod cores;
-mod index_list;
+mod cores;
+mod event_lists;
+mod kinds;
 pub mod laws;
 pub mod queues;
 mod ready;
 pub mod set;
-pub mod waiting;
 
 pub use queues::Queues;
 pub use set::{Allowed, QueueSet};

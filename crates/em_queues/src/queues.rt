@@ -1,5 +1,5 @@
 //! The queues of a run.
-ghost use Rattle.std.specs.Prelude.{◌≡◌, ℕ, ◌+◌, ◌<◌, ◌≤◌, ◌&&◌, ◌||◌, false, [], ◌∷◌, List, length, slice_get, None, IfOk, IfSome, IfNone, MatchOption, MatchResult, map};
+ghost use Rattle.std.specs.Prelude.{◌≡◌, ℕ, ◌+◌, ◌<◌, ◌≤◌, ◌&&◌, ◌||◌, true, false, [], ◌∷◌, List, length, slice_get, Some, None, IfOk, IfSome, IfNone, MatchOption, MatchResult, map};
 ghost use Rattle.std.specs.Option.{option_map};
 ghost use Rattle.em_log.specs.declared.declarations.Declarations.{Declarations};
 ghost use Rattle.em_log.specs.Declarations.{declarations_of, event_total, pool_shape, is_local, kind_of};
@@ -12,36 +12,36 @@ ghost use Rattle.em_queues.specs.State.{shape, kind_at, items_at, taken_at, core
 ghost use Rattle.em_queues.specs.Stands.{Stands};
 ghost use Rattle.em_queues.specs.Changes.{arrived_local, arrived_shared, took_local, took_shared, gave_local, gave_shared, started, dequeued, lesser_number};
 
-use crate::cores::{CoreQueues, idle_cores, kinds_of, nodes_for, put_back};
-use crate::index_list::IndexList;
+use crate::cores::{CoreSlot, idle_cores, lists_of, local_list, taken_list};
+use crate::event_lists::EventLists;
+use crate::kinds::{RankedKind, kinds_of};
+use crate::ready::ReadySets;
 use crate::set::Allowed;
-use crate::waiting::{ListScope, WaitingLists};
 use em_log::{Config, CoreId, Fault, Kind, NoMemory, PoolDecl, QueueId};
 use std::alloc::Global;
 use std::marker::Model;
-use std::mem::replace;
 
 /// What waits in each queue, and what each core has taken.
 #[derive(Drop)]
 pub struct Queues {
-    kinds: Vec<Kind>,
-    shared: WaitingLists,
-    cores: Vec<CoreQueues>,
-    nodes: Vec<IndexList>,
-    alloc: Global,
+    kinds: Vec<RankedKind>,
+    lists: EventLists,
+    ready: ReadySets,
+    cores: Vec<CoreSlot>,
 }
 
 impl Model for Queues {
     ghost use Rattle.em_queues.specs.State.{QueueState, state_code};
-    ghost use Rattle.em_queues.specs.Whole.{IsWhole};
+    ghost use Rattle.em_queues.specs.Rows.{queues_from};
+    ghost use Rattle.em_queues.specs.Whole.{AreWhole};
 
     ghost Value = { QueueState };
 
     ghost coded = { state_code };
 
-    ghost view = { λ a. record { kinds = a.kinds.items; shared = a.shared; cores = a.cores.items; nodes = a.nodes.items } };
+    ghost view = { λ a. queues_from a.kinds.items a.lists a.cores.items };
 
-    ghost invariant = { λ a. IsWhole a.kinds.items a.shared a.cores.items a.nodes.items };
+    ghost invariant = { λ a. AreWhole a.kinds.items a.lists a.ready a.cores.items };
 }
 
 impl Queues {
@@ -55,10 +55,13 @@ impl Queues {
         let queues = config.queues.as_slice();
         Ok(Queues {
             kinds: kinds_of(alloc, queues)?,
-            shared: WaitingLists::build(alloc, queues, ListScope::Shared)?,
-            cores: idle_cores(alloc, config.cores, queues)?,
-            nodes: nodes_for(alloc, total(config.pools.as_slice()))?,
-            alloc,
+            lists: EventLists::build(
+                alloc,
+                lists_of(config.cores),
+                total(config.pools.as_slice()),
+            )?,
+            ready: ReadySets::none(),
+            cores: idle_cores(alloc, config.cores)?,
         })
     }
 
@@ -101,7 +104,7 @@ impl Queues {
         ensures stands { (k : Declarations) (s : List QueueStep) → Stands k self.old s → MatchOption result (Stands k self.new s) (λ _. Stands k self.new (NextTaken core.0 ∷ s)) }
         ensures same_shape { shape self.new ≡ shape self.old }
     {
-        let index = self.cores[usize::from(core.0)].taken.first()?;
+        let index = self.first_taken(core)?;
         self.start(core, index);
         Some(index)
     }
@@ -112,7 +115,7 @@ impl Queues {
         ensures answer { (k : Declarations) (s : List QueueStep) → Stands k self.now s → result ≡ slice_get ((lists k s).taken core.0) i }
         ensures value { result ≡ slice_get (taken_at self.now core.0) i }
     {
-        self.cores[usize::from(core.0)].taken.get(usize::from(i))
+        self.lists.get(taken_list(core), u16::from(i))
     }
 
     /// Gives what the core has taken back to the front of its queue, and answers how many these are.
@@ -135,8 +138,8 @@ impl Queues {
         ensures stands { (k : Declarations) (s : List QueueStep) (c : ℕ) → Stands k self.old s → MatchResult result (λ o. MatchOption o (Stands k self.new s) (λ _. Stands k self.new (Dequeued queue.0 c ∷ s))) (λ _. Stands k self.new s) }
         ensures same_shape { shape self.new ≡ shape self.old }
     {
-        match self.kinds[usize::from(queue.0)] {
-            Kind::Unscheduled => match self.shared.first(queue) {
+        match self.kinds[usize::from(queue.0)].kind {
+            Kind::Unscheduled => match self.first_shared(queue) {
                 None => Ok(None),
                 Some(index) => {
                     self.dequeue_first(queue, index);
@@ -163,7 +166,7 @@ impl Queues {
         ensures answer { (k : Declarations) (s : List QueueStep) → Stands k self.now s → result ≡ is_listed k s index }
         ensures value { result ≡ is_listed_at self.now index }
     {
-        self.nodes[usize::from(index)].len() == 0
+        self.lists.is_listed(index)
     }
 
     /// A queue of the highest priority among the allowed scheduled and local queues in which something waits for the
@@ -188,7 +191,7 @@ impl Queues {
         ensures shared { queue.0 < length self.now.shared }
         ensures local { (c : ℕ) → c < length self.now.cores → queue.0 < length (core_at self.now c).local }
     {
-        matches!(self.kinds[usize::from(queue.0)], Kind::Local)
+        matches!(self.kinds[usize::from(queue.0)].kind, Kind::Local)
     }
 
     /// How many events wait for the core in the queue.
@@ -198,10 +201,26 @@ impl Queues {
         ensures { result ≡ length (items_at self.now queue.0 core.0) }
     {
         if self.is_local(queue) {
-            self.cores[usize::from(core.0)].local.len(queue) as u32
+            u32::from(self.lists.len(local_list(core, queue)))
         } else {
-            self.shared.len(queue) as u32
+            u32::from(self.lists.len(usize::from(queue.0)))
         }
+    }
+
+    /// The first event of the queue's list, which is one for all cores.
+    fn first_shared(&self, queue: QueueId) -> Option<u16>
+        requires { queue.0 < length self.now.kinds }
+        ensures { result ≡ slice_get (items_in self.now.shared queue.0) 0 }
+    {
+        self.lists.first(usize::from(queue.0))
+    }
+
+    /// The first event that the core has taken.
+    fn first_taken(&self, core: CoreId) -> Option<u16>
+        requires { core.0 < length self.now.cores }
+        ensures { result ≡ slice_get (taken_at self.now core.0) 0 }
+    {
+        self.lists.first(taken_list(core))
     }
 
     /// How many events the core has taken.
@@ -209,7 +228,7 @@ impl Queues {
         requires { core.0 < length self.now.cores }
         ensures { result ≡ length (taken_at self.now core.0) }
     {
-        self.cores[usize::from(core.0)].taken.len() as u8
+        self.lists.len(taken_list(core)) as u8
     }
 
     /// The queue that the core took from last.
@@ -226,43 +245,43 @@ impl Queues {
     fn arrive_local(&mut self, queue: QueueId, core: CoreId, index: u16)
         requires queue { queue.0 < length self.old.kinds }
         requires core { core.0 < length self.old.cores }
+        requires local { is_local (kind_at self.old queue.0) ≡ true }
         requires unlisted { is_listed_at self.old index ≡ false }
         ensures { self.new ≡ arrived_local self.old queue.0 core.0 index }
     {
-        let mut node = replace(
-            &mut self.nodes[usize::from(index)],
-            IndexList::empty(self.alloc),
-        );
-        node.fill(index);
-        self.cores[usize::from(core.0)]
-            .local
-            .push_back(queue, &mut node);
+        let rank = self.kinds[usize::from(queue.0)].rank;
+        let is_first = self.lists.push_back(local_list(core, queue), index);
+        let slot = &mut self.cores[usize::from(core.0)];
+        slot.ready.enter(queue, rank, is_first);
     }
 
     /// Puts the event at the end of the queue's list, which is one for all cores.
     fn arrive_shared(&mut self, queue: QueueId, index: u16)
         requires queue { queue.0 < length self.old.kinds }
+        requires shared { is_local (kind_at self.old queue.0) ≡ false }
         requires unlisted { is_listed_at self.old index ≡ false }
         ensures { self.new ≡ arrived_shared self.old queue.0 index }
     {
-        let mut node = replace(
-            &mut self.nodes[usize::from(index)],
-            IndexList::empty(self.alloc),
-        );
-        node.fill(index);
-        self.shared.push_back(queue, &mut node);
+        let rank = self.kinds[usize::from(queue.0)].rank;
+        let is_first = self.lists.push_back(usize::from(queue.0), index);
+        self.ready.enter(queue, rank, is_first);
     }
 
     /// Takes the first `n` out of the core's list of a local queue.
     fn take_local(&mut self, queue: QueueId, core: CoreId, n: u8)
         requires queue { queue.0 < length self.old.kinds }
         requires core { core.0 < length self.old.cores }
+        requires local { is_local (kind_at self.old queue.0) ≡ true }
         requires enough { n ≤ length (items_in (core_at self.old core.0).local queue.0) }
         requires idle { taken_at self.old core.0 ≡ [] }
         ensures { self.new ≡ took_local self.old queue.0 core.0 n }
     {
+        let rank = self.kinds[usize::from(queue.0)].rank;
+        let is_last = self
+            .lists
+            .move_first(local_list(core, queue), taken_list(core), u16::from(n));
         let slot = &mut self.cores[usize::from(core.0)];
-        slot.taken = slot.local.take_first(queue, usize::from(n));
+        slot.ready.leave(queue, rank, is_last);
         slot.source = Some(queue);
     }
 
@@ -270,24 +289,27 @@ impl Queues {
     fn take_shared(&mut self, queue: QueueId, core: CoreId, n: u8)
         requires queue { queue.0 < length self.old.kinds }
         requires core { core.0 < length self.old.cores }
+        requires shared { is_local (kind_at self.old queue.0) ≡ false }
         requires enough { n ≤ length (items_in self.old.shared queue.0) }
         requires idle { taken_at self.old core.0 ≡ [] }
         ensures { self.new ≡ took_shared self.old queue.0 core.0 n }
     {
-        let taken = self.shared.take_first(queue, usize::from(n));
+        let rank = self.kinds[usize::from(queue.0)].rank;
+        let is_last = self
+            .lists
+            .move_first(usize::from(queue.0), taken_list(core), u16::from(n));
+        self.ready.leave(queue, rank, is_last);
         let slot = &mut self.cores[usize::from(core.0)];
-        slot.taken = taken;
         slot.source = Some(queue);
     }
 
-    /// Takes the first taken event out, and keeps its node for the event of this index.
+    /// Takes the first taken event out, which is that of this index.
     fn start(&mut self, core: CoreId, index: u16)
         requires core { core.0 < length self.old.cores }
-        requires some { 0 < length (taken_at self.old core.0) }
+        requires first { slice_get (taken_at self.old core.0) 0 ≡ Some index }
         ensures { self.new ≡ started self.old core.0 index }
     {
-        let node = self.cores[usize::from(core.0)].taken.take_first(1);
-        put_back(&mut self.nodes, usize::from(index), node);
+        let _ = self.lists.remove_first(taken_list(core));
     }
 
     /// Gives what the core has taken back to the front of its queue.
@@ -312,31 +334,39 @@ impl Queues {
     fn give_back_local(&mut self, core: CoreId, queue: QueueId)
         requires queue { queue.0 < length self.old.kinds }
         requires core { core.0 < length self.old.cores }
+        requires local { is_local (kind_at self.old queue.0) ≡ true }
         ensures { self.new ≡ gave_local self.old core.0 queue.0 }
     {
+        let rank = self.kinds[usize::from(queue.0)].rank;
+        let is_some = self
+            .lists
+            .move_all(taken_list(core), local_list(core, queue));
         let slot = &mut self.cores[usize::from(core.0)];
-        slot.local.push_front(queue, &mut slot.taken);
+        slot.ready.enter(queue, rank, is_some);
     }
 
     /// Gives what the core has taken back to the front of the queue's list, which is one for all cores.
     fn give_back_shared(&mut self, core: CoreId, queue: QueueId)
         requires queue { queue.0 < length self.old.kinds }
         requires core { core.0 < length self.old.cores }
+        requires shared { is_local (kind_at self.old queue.0) ≡ false }
         ensures { self.new ≡ gave_shared self.old core.0 queue.0 }
     {
-        self.shared
-            .push_front(queue, &mut self.cores[usize::from(core.0)].taken);
+        let rank = self.kinds[usize::from(queue.0)].rank;
+        let is_some = self.lists.move_all(taken_list(core), usize::from(queue.0));
+        self.ready.enter(queue, rank, is_some);
     }
 
-    /// Takes the first event out of the queue's list, which is one for all cores, and keeps its node for the event of
-    /// this index.
+    /// Takes the first event, which is that of this index, out of the queue's list, which is one for all cores.
     fn dequeue_first(&mut self, queue: QueueId, index: u16)
         requires queue { queue.0 < length self.old.kinds }
-        requires some { 0 < length (items_in self.old.shared queue.0) }
+        requires shared { is_local (kind_at self.old queue.0) ≡ false }
+        requires first { slice_get (items_in self.old.shared queue.0) 0 ≡ Some index }
         ensures { self.new ≡ dequeued self.old queue.0 index }
     {
-        let node = self.shared.take_first(queue, 1);
-        put_back(&mut self.nodes, usize::from(index), node);
+        let rank = self.kinds[usize::from(queue.0)].rank;
+        let is_last = self.lists.remove_first(usize::from(queue.0));
+        self.ready.leave(queue, rank, is_last);
     }
 
     /// The allowed queue of the least number, of this priority, in which something waits for the core.
@@ -345,11 +375,8 @@ impl Queues {
         requires rank { rank < 5 }
         ensures { IsLeast (λ q. (is_ready rank (list_in self.now.shared q) && contains may.now q) || (is_ready rank (list_in (core_at self.now core.0).local q) && contains may.now q)) (option_map (λ x. x.0) result) }
     {
-        let local = &self.cores[usize::from(core.0)].local;
-        lesser(
-            self.shared.first_ready(rank, may),
-            local.first_ready(rank, may),
-        )
+        let local = &self.cores[usize::from(core.0)].ready;
+        lesser(self.ready.first(rank, may), local.first(rank, may))
     }
 }
 

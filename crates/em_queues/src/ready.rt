@@ -1,8 +1,8 @@
 //! A set of queues for each priority.
-ghost use Rattle.std.specs.Prelude.{◌≡◌, ℕ, ◌<◌, ◌==◌, ◌&&◌, false, IfSome, if◌then◌else◌};
+ghost use Rattle.std.specs.Prelude.{◌≡◌, ℕ, ◌<◌, ◌&&◌, true, false, IfSome};
 ghost use Rattle.std.specs.Option.{option_map};
 ghost use Rattle.em_queues.specs.Sets.{contains, IsLeast};
-ghost use Rattle.em_queues.specs.Ready.{has_ready, is_ranked};
+ghost use Rattle.em_queues.specs.Ready.{has_ready, IsMarked};
 
 use crate::bits::{has_bit, with_bit};
 use crate::set::QueueSet;
@@ -42,16 +42,28 @@ impl ReadySets {
         }
     }
 
-    /// Notes in the set of this priority, if there is one, whether something waits in the queue.
-    pub fn mark(&mut self, queue: QueueId, rank: Option<u8>, is_waiting: bool)
+    /// Puts the queue into the set of this priority, if there is one, where this is so.
+    pub fn enter(&mut self, queue: QueueId, rank: Option<u8>, is_so: bool)
         requires queue { queue.0 < 256 }
         requires rank { IfSome rank (λ r. r < 5) }
-        ensures { (r q : ℕ) → has_ready self.new r q ≡ (if is_ranked r rank && (q == queue.0) then is_waiting else has_ready self.old r q) }
+        ensures { IsMarked self.old self.new queue.0 rank is_so true }
     {
-        if let Some(rank) = rank {
-            if self.sets[usize::from(rank)].has(queue) != is_waiting {
-                self.put(rank, queue, is_waiting);
-            }
+        if is_so && let Some(rank) = rank {
+            self.sets[usize::from(rank)].add(queue);
+            self.occupied = with_bit(self.occupied, u32::from(rank), true);
+        }
+    }
+
+    /// Takes the queue out of the set of this priority, if there is one, where this is so.
+    pub fn leave(&mut self, queue: QueueId, rank: Option<u8>, is_so: bool)
+        requires queue { queue.0 < 256 }
+        requires rank { IfSome rank (λ r. r < 5) }
+        ensures { IsMarked self.old self.new queue.0 rank is_so false }
+    {
+        if is_so && let Some(rank) = rank {
+            let set = &mut self.sets[usize::from(rank)];
+            set.remove(queue);
+            self.occupied = with_bit(self.occupied, u32::from(rank), !set.is_empty());
         }
     }
 
@@ -65,16 +77,5 @@ impl ReadySets {
         } else {
             None
         }
-    }
-
-    /// Puts the queue into the set of this priority, or takes it out.
-    fn put(&mut self, rank: u8, queue: QueueId, is_in: bool)
-        requires rank { rank < 5 }
-        requires queue { queue.0 < 256 }
-        ensures { (r q : ℕ) → has_ready self.new r q ≡ (if (r == rank) && (q == queue.0) then is_in else has_ready self.old r q) }
-    {
-        let set = &mut self.sets[usize::from(rank)];
-        set.put(queue, is_in);
-        self.occupied = with_bit(self.occupied, u32::from(rank), !set.is_empty());
     }
 }

@@ -1,22 +1,26 @@
-use Rattle.std.proofs.Common.{◌≡◌, ◌<◌, [], false, length, get_or, set, ap, ◌∙◌, sym, subst}
-use Rattle.em_queues.specs.State.{QueueState, is_listed_at, is_nil}
-use Rattle.em_queues.specs.Whole.{IsWhole}
-use Rattle.em_queues.proofs.WholeLemmas.{arrived-local, node-some, node-there}
+use Rattle.std.proofs.Common.{◌≡◌, ◌∷◌, [], ◌++◌, ◌==◌, true, length, get_or, set, arith, ap, ◌∙◌, subst}
+use Rattle.em_queues.specs.Events as events
+use Rattle.em_queues.specs.Changes.{arrived_local}
+use Rattle.em_queues.proofs.QueueCalls.{queue-there, core-there, kind-there, local-few, arrived-local-left}
 use Rattle.em_queues.proofs.queues.Queues.arrive_local.Goals as goal
+
+pub index_mut-slot-requires : goal.index_mut-slot-requires
+index_mut-slot-requires c = let lt = (core-there c.self.inside.kinds.items c.self.inside.lists c.self.inside.cores.items c.self.invariant c.self.view_is c.args.core.0 c.requires.core) in let at = c.from-2.ensures in omega arith
+
+pub enter-requires-clause-rank : goal.enter-requires-clause-rank
+enter-requires-clause-rank c = local-few c.self.inside.kinds.items c.self.inside.lists c.self.inside.cores.items c.self.invariant c.args.core.0 (core-there c.self.inside.kinds.items c.self.inside.lists c.self.inside.cores.items c.self.invariant c.self.view_is c.args.core.0 c.requires.core) c.args.queue.0 (queue-there c.self.inside.kinds.items c.self.inside.lists c.self.inside.cores.items c.self.invariant c.self.view_is c.args.queue.0 c.requires.queue) c.index.result.now (c.index.ensures ∙ ap (λ k. get_or c.self.inside.kinds.items k c.index.result.now) c.from.ensures) (kind-there c.self.inside.kinds.items c.self.inside.lists c.self.inside.cores.items c.self.invariant c.self.view_is c.args.queue.0 true c.index.result.now (queue-there c.self.inside.kinds.items c.self.inside.lists c.self.inside.cores.items c.self.invariant c.self.view_is c.args.queue.0 c.requires.queue) (c.index.ensures ∙ ap (λ k. get_or c.self.inside.kinds.items k c.index.result.now) c.from.ensures) c.requires.local)
 
 pub invariant_of-self : goal.invariant_of-self
 invariant_of-self c =
-    let there : is_nil (get_or c.self.inside.nodes.items c.from.result []) ≡ false =
-    subst (λ j. is_nil (get_or c.self.inside.nodes.items j []) ≡ false) (sym c.from.ensures)
-    (subst (λ (v : QueueState). is_listed_at v c.args.index ≡ false) (sym c.self.view_is) c.requires.unlisted) in
-    subst
-    (λ r. IsWhole c.self.inside.kinds.items c.self.inside.shared
-    (set c.self.inside.cores.items c.from-2.result (record { local = c.push_back.new.self; taken = c.index_mut-2.result.now.taken; source = c.index_mut-2.result.now.source }))
-    (set c.self.inside.nodes.items c.from.result r))
-    (sym (c.replace-node.ensures.after ∙ c.empty.ensures))
-    (arrived-local c.self.invariant c.from-2.result c.args.core.0 c.index_mut-2.result.now c.from-2.ensures
-    (subst (λ (v : QueueState). c.args.core.0 < length v.cores) (sym c.self.view_is) c.requires.core) c.index_mut-2.ensures.value
-    c.args.queue.0 c.from.result c.fill.new.self c.push_back.new.self
-    (subst (λ (v : QueueState). c.args.queue.0 < length v.kinds) (sym c.self.view_is) c.requires.queue)
-    (node-there c.self.inside.nodes.items c.from.result there) (node-some c.self.inside.nodes.items c.from.result there) (ap length c.fill.ensures)
-    c.push_back.ensures.lists)
+    (arrived-local-left c.self.inside.kinds.items c.self.inside.lists c.self.inside.cores.items c.self.invariant c.args.queue.0 (queue-there c.self.inside.kinds.items c.self.inside.lists c.self.inside.cores.items c.self.invariant c.self.view_is c.args.queue.0 c.requires.queue) c.index.result.now (c.index.ensures ∙ ap (λ k. get_or c.self.inside.kinds.items k c.index.result.now) c.from.ensures) c.args.index c.push_back-is_first.new.self c.push_back-is_first.result c.enter.new.self
+    c.args.core.0 (core-there c.self.inside.kinds.items c.self.inside.lists c.self.inside.cores.items c.self.invariant c.self.view_is c.args.core.0 c.requires.core) c.from-2.result c.from-2.ensures c.index_mut-slot.result.now c.index_mut-slot.ensures.value (kind-there c.self.inside.kinds.items c.self.inside.lists c.self.inside.cores.items c.self.invariant c.self.view_is c.args.queue.0 true c.index.result.now (queue-there c.self.inside.kinds.items c.self.inside.lists c.self.inside.cores.items c.self.invariant c.self.view_is c.args.queue.0 c.requires.queue) (c.index.ensures ∙ ap (λ k. get_or c.self.inside.kinds.items k c.index.result.now) c.from.ensures) c.requires.local)
+    (subst (λ m. c.push_back-is_first.new.self.lists ≡ set c.self.inside.lists.lists m (events.list_in c.self.inside.lists.lists m ++ c.args.index ∷ [])) c.local_list.ensures c.push_back-is_first.ensures.lists)
+    c.push_back-is_first.ensures.listed (c.push_back-is_first.ensures.first ∙ ap (λ m. length (events.list_in c.self.inside.lists.lists m) == 0) c.local_list.ensures) c.enter.ensures).whole
+
+pub returns : goal.returns
+returns c =
+    (arrived-local-left c.self.inside.kinds.items c.self.inside.lists c.self.inside.cores.items c.self.invariant c.args.queue.0 (queue-there c.self.inside.kinds.items c.self.inside.lists c.self.inside.cores.items c.self.invariant c.self.view_is c.args.queue.0 c.requires.queue) c.index.result.now (c.index.ensures ∙ ap (λ k. get_or c.self.inside.kinds.items k c.index.result.now) c.from.ensures) c.args.index c.push_back-is_first.new.self c.push_back-is_first.result c.enter.new.self
+    c.args.core.0 (core-there c.self.inside.kinds.items c.self.inside.lists c.self.inside.cores.items c.self.invariant c.self.view_is c.args.core.0 c.requires.core) c.from-2.result c.from-2.ensures c.index_mut-slot.result.now c.index_mut-slot.ensures.value (kind-there c.self.inside.kinds.items c.self.inside.lists c.self.inside.cores.items c.self.invariant c.self.view_is c.args.queue.0 true c.index.result.now (queue-there c.self.inside.kinds.items c.self.inside.lists c.self.inside.cores.items c.self.invariant c.self.view_is c.args.queue.0 c.requires.queue) (c.index.ensures ∙ ap (λ k. get_or c.self.inside.kinds.items k c.index.result.now) c.from.ensures) c.requires.local)
+    (subst (λ m. c.push_back-is_first.new.self.lists ≡ set c.self.inside.lists.lists m (events.list_in c.self.inside.lists.lists m ++ c.args.index ∷ [])) c.local_list.ensures c.push_back-is_first.ensures.lists)
+    c.push_back-is_first.ensures.listed (c.push_back-is_first.ensures.first ∙ ap (λ m. length (events.list_in c.self.inside.lists.lists m) == 0) c.local_list.ensures) c.enter.ensures).state
+    ∙ ap (λ v. arrived_local v c.args.queue.0 c.args.core.0 c.args.index) c.self.view_is
