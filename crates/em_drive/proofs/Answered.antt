@@ -47,7 +47,7 @@ fits-dequeued : (a : Ask) (o : Option Event) → IsTrue (fits a Answer.Nothing) 
 fits-dequeued a None nothing some = nothing
 fits-dequeued a (Some e) nothing some = some e
 
-lead-fits : (k : Declarations) (past : Past) (c : ℕ) (a : Ask) → IsTrue (fits a (answer_of (lead k past c a)))
+pub lead-fits : (k : Declarations) (past : Past) (c : ℕ) (a : Ask) → IsTrue (fits a (answer_of (lead k past c a)))
 lead-fits k past c Ask.Claim = fits-claimed (claimed k past c)
 lead-fits k past c (Ask.Say v) = refl
 lead-fits k past c (Ask.End cells) = refl
@@ -120,9 +120,9 @@ module _ (past : Past) (c : ℕ) where
 -- the handles
 
 -- what the ask spends by this answer
-record Spends (hs : List ℕ) (a : Ask) (x : Answer) : Type 0 where
-  different : Distinct (spent a x)
-  among : AreAmong (spent a x) hs
+pub record Spends (hs : List ℕ) (a : Ask) (x : Answer) : Type 0 where
+  pub different : Distinct (spent a x)
+  pub among : AreAmong (spent a x) hs
 
 -- its words are different and among these
 record AreWordsOf (hs : List ℕ) (a : Ask) : Type 0 where
@@ -177,7 +177,7 @@ module _ (k : Declarations) (past : Past) (c : ℕ) (hs : List ℕ) (holds : (w 
       notes-words (Ask.Modify g m notes) notes refl (begin-notes past c (aims_at_group g.0) (mask_fault k m) notes none)
   words-of a none = no-words a refl
 
-  lead-spends : (a : Ask) → Spends hs a (answer_of (lead k past c a))
+  pub lead-spends : (a : Ask) → Spends hs a (answer_of (lead k past c a))
   lead-spends (Ask.Alloc p kind words) =
       refused-spends k past c hs (Ask.Alloc p kind words) (refusal k past c (Ask.Alloc p kind words)) (own k past c (Ask.Alloc p kind words))
       (record { different = tt; among = tt })
@@ -196,7 +196,7 @@ end-new k past c hs (Ask.End cells) x ends is = subst (λ (y : Answer). AreNew (
 end-new k past c hs a x ends is = absurd cc
 
 -- what is minted is held by no context yet
-answer-new : (g : Config) (l : Limits) (past : Past) (c : ℕ) (a : Ask) (x : Answer) → let k = declarations_of g in
+pub answer-new : (g : Config) (l : Limits) (past : Past) (c : ℕ) (a : Ask) (x : Answer) → let k = declarations_of g in
     IsWellFormed g → Lawful k l (block k past (entry_by c (lead k past c a))) → x ≡ answer_of (lead k past c a)
     → AreNew (minted x) (held past c)
 answer-new g l past c a x formed lawful is = by_end (is_end a) refl

@@ -47,7 +47,7 @@ both false b c p q r = absurd cc
 both true false c p q r = absurd cc
 both true true false p q r = absurd cc
 
-may-stand : (k : Declarations) (past : Past) (c : ℕ) (opened : Context) (a : Ask) → log.context past c ≡ Some (begun_by opened)
+pub may-stand : (k : Declarations) (past : Past) (c : ℕ) (opened : Context) (a : Ask) → log.context past c ≡ Some (begun_by opened)
     → IsTrue (is_declared k a) → IsTrue (is_typed a) → IsTrue (is_placed (Some (entry_of opened)) (holds k past c) a) → IsTrue (may_ask k past c a)
 may-stand k past c opened a is declared typed placed =
     let begun : log.context past c ≡ Some (entry_of opened) = is ∙ ap Some (same-entry opened) in
@@ -118,7 +118,7 @@ work-ends g l desk c run going cells is =
 
 -- the desk's conditions
 
-end-placed : (opened : Option What) (atomic : Option ℕ) (cells : Option Cells) → is_some atomic ≡ is_some cells → IsTrue (is_placed opened atomic (Ask.End cells))
+pub end-placed : (opened : Option What) (atomic : Option ℕ) (cells : Option Cells) → is_some atomic ≡ is_some cells → IsTrue (is_placed opened atomic (Ask.End cells))
 end-placed opened None None same = refl
 end-placed opened (Some a) (Some cells) same = refl
 end-placed opened None (Some cells) same = absurd cc

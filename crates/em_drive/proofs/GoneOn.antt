@@ -123,7 +123,7 @@ replied g l desk now c run a reply going done =
     }
 
 -- no entry of another core names what core c holds
-left-alone : (k : Declarations) (l : Limits) (past : Past) (c : ℕ) → HasSmallIndices k → AllAllowed k l past → LeftAlone c past
+pub left-alone : (k : Declarations) (l : Limits) (past : Past) (c : ℕ) → HasSmallIndices k → AllAllowed k l past → LeftAlone c past
 left-alone k l [] c small all = tt
 left-alone k l (e ∷ past) c small all = (by_core (compared e.core.0 c), left-alone k l past c small all.1)
   where

@@ -18,3 +18,6 @@ pub mod GoneOn
 pub mod Cells
 pub mod OtherCores
 pub mod Rounds
+pub mod Working
+pub mod WorkTakes
+pub mod WorkAsks

@@ -41,7 +41,7 @@ reading-stays g past now c told es ws same r =
       cost = subst (λ ls. sum_by (λ x. cost_of_lead x.what) ls ≤ sum_by (λ (x : Exchange). cost_of_ask x.ask) es) (sym same.leads) r.cost;
     }
 
-current-stays : (g : Config) (past now : Past) (c : ℕ) (o : Option Context) (es : List Exchange) (ws : List What)
+pub current-stays : (g : Config) (past now : Past) (c : ℕ) (o : Option Context) (es : List Exchange) (ws : List What)
     → IsSameFor (declarations_of g) past now c → IsCurrent g past c o es ws → IsCurrent g now c o es ws
 current-stays g past now c None es ws same closed = same.context ∙ closed
 current-stays g past now c (Some told) es ws same r = reading-stays g past now c told es ws same r

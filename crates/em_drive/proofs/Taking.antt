@@ -85,7 +85,7 @@ took-now g l desk now c run x w idle takes =
 
 -- it may be told
 
-took-fits : (g : Config) (l : Limits) (past now : Past) (c : ℕ) (x : Answer) → Took g l past c x now → IsTrue (fits_take x)
+pub took-fits : (g : Config) (l : Limits) (past now : Past) (c : ℕ) (x : Answer) → Took g l past c x now → IsTrue (fits_take x)
 took-fits g l past now c x (Opens opened is open' grows) = rw is refl
 took-fits g l past now c x (Acknowledges op is new) = rw is refl
 took-fits g l past now c x (Idles is same idle) = rw is refl
@@ -103,7 +103,7 @@ rest-told g l past now c x (Idles is same idle) = subst ToldNoRest (sym is) tt
 rest-told g l past now c x (EndsQuiet is same ended) = subst ToldNoRest (sym is) tt
 rest-told g l past now c x (EndsAtLimit is same ended) = subst ToldNoRest (sym is) tt
 
-none-handled : (hs : List ℕ) (x : Answer) → IsTrue (fits_take x) → AreHandles hs (Some Step.Take) x
+pub none-handled : (hs : List ℕ) (x : Answer) → IsTrue (fits_take x) → AreHandles hs (Some Step.Take) x
 none-handled hs (Answer.Context k) fits = record { different = tt; among = tt; new = tt }
 none-handled hs (Answer.Acked op) fits = record { different = tt; among = tt; new = tt }
 none-handled hs Answer.Idle fits = record { different = tt; among = tt; new = tt }

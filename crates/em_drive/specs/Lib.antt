@@ -4,3 +4,4 @@ pub mod Servable
 pub mod Runs
 pub mod Readings
 pub mod Going
+pub mod Driven

@@ -46,7 +46,7 @@ fn next_step<'a>(run: &mut CoreRun<BodyRun<'a>>) -> Step
 }
 
 /// Tells the gate what the core's take was answered.
-fn tell<G: Gate>(gate: &G, core: CoreId, answer: &Answer) {
+pub(crate) fn tell<G: Gate>(gate: &G, core: CoreId, answer: &Answer) {
     match answer {
         Answer::Context(Context::Receive(receive)) => {
             gate.at_start(core, receive.queue, receive.event.handle.0);
