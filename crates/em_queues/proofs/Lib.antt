@@ -5,6 +5,7 @@ pub mod LinkedLists
 pub mod EventCalls
 pub mod SeenEvents
 pub mod EmptyLists
+mod SetUnions
 pub mod WaitingLemmas
 pub mod RowLemmas
 pub mod WholeLemmas

@@ -10,6 +10,7 @@ pub mod laws;
 pub mod queues;
 mod ready;
 pub mod set;
+mod unions;
 
 pub use queues::Queues;
 pub use set::{Allowed, QueueSet};

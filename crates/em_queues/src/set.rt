@@ -10,7 +10,7 @@ use em_log::QueueId;
 /// A set of queues with numbers below 256, the greatest number of queues: one bit for each.
 #[derive(Clone, Copy, Debug, PartialEq, Eq)]
 pub struct QueueSet {
-    words: [u64; 4],
+    pub(crate) words: [u64; 4],
 }
 
 /// The queues that a core may take from.
