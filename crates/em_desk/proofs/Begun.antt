@@ -6,7 +6,7 @@ use Rattle.em_log.specs.declared.entry.What.{What}
 use Rattle.em_log.specs.History.{Past, entry_by, entries_by, onto}
 use Rattle.em_log.specs.Contexts.{context_after}
 use Rattle.em_log.specs.Operations.{Operation, operation, begun_by}
-use Rattle.em_log.specs.Places.{started, started_after}
+use Rattle.em_log.specs.Places.{started, started_after, taken}
 use Rattle.em_log.specs.Arrivals.{entering}
 use Rattle.em_log.specs.Legal.{Lead, lead_here, leads_after}
 use Rattle.em_log.specs.Tails.{tail, tail_of}
@@ -15,6 +15,7 @@ use Rattle.em_log.specs.Lawful.{AllAllowed, Begins, Asks, IsNext, due, due_after
 use Rattle.em_log.specs.Allowance.{left, cost_of_lead}
 use Rattle.em_log.specs.Answers.{block}
 use Rattle.em_moments.proofs.Asked.{asks-open}
+use Rattle.em_laws.proofs.Single.{nothing-taken}
 use Rattle.em_bounds.specs.Paid.{paid, pays}
 use Rattle.em_bounds.proofs.Paid.{is-paid}
 use Rattle.em_pool.specs.Steps.{PoolStep}
@@ -28,6 +29,10 @@ use Rattle.em_desk.specs.declared.acts.Act.{Act}
 use Rattle.em_desk.specs.declared.parts.Parts.{Parts}
 use Rattle.em_desk.specs.Histories.{HistoryState}
 use Rattle.em_desk.specs.Served.{is_served_entry}
+use Rattle.em_context_parts.specs.AtomicSteps.{atomic_steps, atomic_after}
+use Rattle.em_context_parts.specs.AtomicAlike.{AtomicsAlike}
+use Rattle.em_context_parts.proofs.AtomicCells.{atomics-alike}
+use Rattle.em_desk.specs.Atomics.{AtomicsStand}
 use Rattle.em_desk.specs.Acts.{said, pool_acts, queue_acts, AreReady}
 use Rattle.em_desk.specs.Openings.{opening_at, opening_of}
 use Rattle.em_bounds.specs.Room.{needed, lefts}
@@ -56,6 +61,7 @@ pub record IsMade (p q : Parts) (c : ℕ) (w : What) (acts : List Act) : Type 0 
   pub pool_shape : q.pools.pools ≡ p.pools.pools
   pub queues : queues.Stands p.declarations q.queues (served_steps c w (queue_steps p.declarations p.history.past))
   pub queue_shape : shape q.queues ≡ shape p.queues
+  pub atomics : AtomicsStand p.declarations q.atomics (atomic_after p.declarations p.history.past c w (atomic_steps p.declarations p.history.past))
   pub ready : AreReady p.declarations (direct p.declarations p.history.past c w (pool_steps p.declarations p.history.past))
       (served_steps c w (queue_steps p.declarations p.history.past)) acts
   pub kept : AreKept p.declarations (entry_by c w ∷ p.history.past) q.kept
@@ -90,6 +96,7 @@ begun p q b c w acts s lt begins served cause core m =
       queues = m.queues;
       queue_lag = cause.queues (served_steps c w (queue_steps p.declarations p.history.past));
       queue_shape = m.queue_shape ∙ s.queue_shape;
+      atomics = m.atomics;
       ready = m.ready;
       kept = m.kept;
       cores = m.cores ∙ s.cores;
@@ -108,6 +115,17 @@ settled-pools p b s = subst (pools.Stands p.pools) (sym s.pool_lag) s.pools
 pub settled-queues : (p : Parts) (b : ℕ) → Standing p b [] → queues.Stands p.declarations p.queues (queue_steps p.declarations p.history.past)
 settled-queues p b s = subst (queues.Stands p.declarations p.queues) (sym s.queue_lag) s.queues
 
+-- with one event taken at a time nothing is taken between asks
+pub untaken : (p : Parts) (b c : ℕ) → Standing p b [] → taken p.declarations p.history.past c ≡ []
+untaken p b c s =
+    let some = s.fixed.limits.some_burst in
+    let most = s.fixed.limits.most_burst in
+    nothing-taken p.declarations p.limits p.history.past (omega (arith, some, most)) s.all s.due c
+
+-- the atomic contexts are those of the history
+pub atomics : (p : Parts) (b : ℕ) (acts : List Act) → Standing p b acts → AtomicsAlike p.declarations p.history.past
+atomics p b acts s = atomics-alike p.declarations p.limits p.history.past s.fixed.limits.some_burst s.all
+
 -- whose asks they are does not matter between asks
 pub at-rest : (p : Parts) (b : ℕ) → Standing p b [] → Stands p
 at-rest p b s =
@@ -125,6 +143,7 @@ at-rest p b s =
       queues = s.queues;
       queue_lag = s.queue_lag;
       queue_shape = s.queue_shape;
+      atomics = s.atomics;
       ready = tt;
       kept = s.kept;
       cores = s.cores;
@@ -181,16 +200,18 @@ pub asked-begun : (p q : Parts) (c : ℕ) (a : Ask) (w : What) (acts : List Act)
     → pools.Stands q.pools (direct p.declarations p.history.past c w (pool_steps p.declarations p.history.past)) → q.pools.pools ≡ p.pools.pools
     → p.pools.spare ≤ q.pools.spare + pays w
     → queues.Stands p.declarations q.queues (served_steps c w (queue_steps p.declarations p.history.past)) → shape q.queues ≡ shape p.queues
+    → AtomicsStand p.declarations q.atomics (atomic_after p.declarations p.history.past c w (atomic_steps p.declarations p.history.past))
     → AreReady p.declarations (direct p.declarations p.history.past c w (pool_steps p.declarations p.history.past)) (served_steps c w (queue_steps p.declarations p.history.past)) acts
     → AreKept p.declarations (entry_by c w ∷ p.history.past) q.kept
-    → Standing (record p { history = pushed p c w; pools = q.pools; queues = q.queues; kept = q.kept }) c acts
-asked-begun p q c a w acts s e served cause core stands shapes spare lists same ready kept =
-    begun p (record p { pools = q.pools; queues = q.queues; kept = q.kept }) 0 c w acts s e.core (Asks a e.may e.gives) served cause core
+    → Standing (record p { history = pushed p c w; pools = q.pools; queues = q.queues; atomics = q.atomics; kept = q.kept }) c acts
+asked-begun p q c a w acts s e served cause core stands shapes spare lists same contexts ready kept =
+    begun p (record p { pools = q.pools; queues = q.queues; atomics = q.atomics; kept = q.kept }) 0 c w acts s e.core (Asks a e.may e.gives) served cause core
     (record {
       pools = stands;
       pool_shape = shapes;
       queues = lists;
       queue_shape = same;
+      atomics = contexts;
       ready = ready;
       kept = kept;
       cores = refl;

@@ -62,6 +62,7 @@ boot-stands p q s none room spare opens =
       pool_shape = refl;
       queues = settled-queues p 0 s;
       queue_shape = refl;
+      atomics = s.atomics;
       ready = tt;
       kept = kept-same p.declarations p.history.past (entry_by 0 boot ∷ p.history.past) p.kept (λ x. refl) s.kept;
       cores = ap length opens ∙ length-set p.contexts.items 0 Opening.Boot;

@@ -128,6 +128,7 @@ with-queues p v s stands same =
       queues = stands;
       queue_lag = refl;
       queue_shape = same ∙ s.queue_shape;
+      atomics = s.atomics;
       ready = tt;
       kept = s.kept;
       cores = s.cores;

@@ -16,6 +16,7 @@ use Rattle.em_log.specs.Eligible.{is_between, ready, is_idle, is_wanted, is_quie
 use Rattle.em_log.specs.Answers.{RestAnswer, end_of}
 use Rattle.em_log.specs.Leads.{scope}
 use Rattle.em_queues.specs.declared.set.QueueSet.{QueueSet}
+use Rattle.em_queues.specs.Sets.{contains}
 use Rattle.em_parts.specs.QueueSteps.{queue_steps}
 use Rattle.em_desk.specs.declared.opening.Opening.{Opening}
 use Rattle.em_desk.specs.declared.parts.Parts.{Parts}
@@ -23,12 +24,11 @@ use Rattle.em_desk.specs.Answers.{rest_of}
 use Rattle.em_desk.specs.Choices.{IsAnyReady}
 use Rattle.em_desk.specs.Openings.{opening_at, opening_by, is_closed, is_boot}
 use Rattle.em_desk.specs.Standing.{Stands}
-use Rattle.em_desk.proofs.Begun.{settled-queues}
+use Rattle.em_desk.proofs.Begun.{settled-queues, untaken}
 use Rattle.em_desk.proofs.Numbers.{all-below, none-below, some-below, not-all-below, all-at, not-all-at}
-use Rattle.em_desk.proofs.Ready.{IsFree, ready-serve}
+use Rattle.em_desk.proofs.Ready.{IsFree, ready-by}
 use Rattle.em_desk.proofs.Served.{all-done}
 use Rattle.em_desk.proofs.Stages.{Stage, Fresh, Booting, Running, stage}
-use Rattle.em_desk.proofs.Unordered.{untaken}
 
 -- contexts
 
@@ -86,7 +86,7 @@ idle-is p s over all =
     between c lt =
         let cores = s.cores in
         let none : is_none (context p.history.past c) ≡ true = sym (closed-is p c s lt) ∙ all-at is_closed p.contexts.items c Opening.Closed all (omega (arith, cores, lt)) in
-        let empty = untaken p.declarations p.limits p.history.past c s.all s.served s.due in
+        let empty = untaken p 0 c s in
         rw (over, none, empty) refl
 
 -- an open context, where not all are closed
@@ -142,7 +142,7 @@ item-of [] i lt = absurd (omega arith)
 item-of (x ∷ xs) zero lt = (x, refl)
 item-of (x ∷ xs) (suc i) lt = item-of xs i (omega (arith, lt))
 
-pub unwanted-is : (p : Parts) → Stands p → IsAnyReady false p.queues p.allowed.items → is_wanted p.declarations p.history.past ≡ false
+pub unwanted-is : (p : Parts) → Stands p → IsAnyReady false p.queues p.allowed.items p.atomics.held → is_wanted p.declarations p.history.past ≡ false
 unwanted-is p s none =
     none-below (λ c. list_any (ready p.declarations p.history.past c) (below (length p.declarations.queues))) p.declarations.cores
     (λ c lt. none-below (ready p.declarations p.history.past c) (length p.declarations.queues) (λ q ql. by_ready c q lt (ready p.declarations p.history.past c q) refl))
@@ -153,7 +153,7 @@ unwanted-is p s none =
         let cores = s.fixed.cores in
         let inside : c < length p.allowed.items = omega (arith, cores, lt) in
         let set : (x : QueueSet) × (x ≡ get_or p.allowed.items c x) = item-of p.allowed.items c inside in
-        let can = ready-serve p c q set.0 s (λ q. s.fixed.allowed c q set.0 inside set.1) on in
+        let can = ready-by p c q (contains set.0 q && not (contains p.atomics.held q)) s ((λ i. s.fixed.allowed c q set.0 inside set.1 i && not (s.atomics.held q i))) on in
         let off = none p.declarations (queue_steps p.declarations p.history.past) (settled-queues p 0 s) c set.0 inside set.1 q in
         absurd (cc (can, off))
 

@@ -1,5 +1,5 @@
 -- An end of a context.
-use Rattle.std.proofs.Common.{◌≡◌, ℕ, ◌<◌, ◌≤◌, [], ◌∷◌, ◌++◌, List, length, map, Option, Some, None, refl, ap, sym, ◌∙◌, subst, arith, IsTrue, slice_set}
+use Rattle.std.proofs.Common.{◌≡◌, ℕ, ◌<◌, ◌≤◌, Bool, true, false, ◌&&◌, [], ◌∷◌, ◌++◌, List, length, map, Option, Some, None, is_some, is_none, refl, ap, sym, ◌∙◌, subst, arith, if◌then◌else◌, IsTrue, IsSome, IfSome, slice_set}
 use Rattle.std.proofs.lemmas.List.{length-set, get_or-set_same, get_or-set_other}
 use Rattle.em_log.specs.declared.ask.Ask.{Ask}
 use Rattle.em_log.specs.declared.declarations.Declarations.{Declarations}
@@ -14,7 +14,8 @@ use Rattle.em_log.specs.Order.{Ticket, open_ticket, let_in}
 use Rattle.em_log.specs.EventGroups.{open_stamp}
 use Rattle.em_log.specs.Tails.{end_tail, outs, notification}
 use Rattle.em_log.specs.Leads.{lead}
-use Rattle.em_log.specs.Lawful.{Asks, is_boot_or_receive}
+use Rattle.em_log.specs.Atomic.{holds, is_empty}
+use Rattle.em_log.specs.Lawful.{Asks, is_boot_or_receive, is_placed}
 use Rattle.em_moments.proofs.Asked.{asks-open}
 use Rattle.em_laws.proofs.Cores.{Compared, Same, Other, compared}
 use Rattle.em_pool.specs.Steps.{PoolStep, Lost, held as held_by}
@@ -24,13 +25,15 @@ use Rattle.em_parts.specs.QueueSteps.{arrived_steps}
 use Rattle.em_parts.proofs.Holdings.{same-held}
 use Rattle.em_desk.specs.declared.opening.Opening.{Opening}
 use Rattle.em_desk.specs.declared.parts.Parts.{Parts}
+use Rattle.em_context_parts.specs.AtomicSteps.{atomic_steps, ended_steps}
+use Rattle.em_desk.specs.Atomics.{AtomicsStand, CanGive}
 use Rattle.em_desk.specs.Openings.{opening_at, opening_of}
 use Rattle.em_bounds.specs.Room.{needed}
 use Rattle.em_desk.specs.Served.{AllServed}
 use Rattle.em_desk.specs.Standing.{Stands}
 use Rattle.em_desk.specs.State.{MayAsk}
 use Rattle.em_desk.proofs.Asked.{steps_of, kept-same}
-use Rattle.em_desk.proofs.Begun.{pushed, IsCause, begun, at-rest, all-with, HasRoom, has-room-by, settled-pools, settled-queues}
+use Rattle.em_desk.proofs.Begun.{pushed, IsCause, begun, at-rest, untaken, atomics, all-with, HasRoom, has-room-by, settled-pools, settled-queues}
 use Rattle.em_desk.proofs.Contexts.{opening-other}
 use Rattle.em_bounds.proofs.Room.{needed-end}
 use Rattle.em_desk.proofs.Served.{none-busy}
@@ -81,6 +84,28 @@ end-needed : (p : Parts) (c lost : ℕ) (cells : Option Cells) → c < p.declara
     → needed p.declarations (entry_by c (What.End lost cells) ∷ p.history.past) ≤ needed p.declarations p.history.past
 end-needed p c lost cells lt = needed-end p.declarations p.history.past c (What.End lost cells) lt refl (λ o. refl)
 
+-- a context that ends with cells holds an atomic context
+holds-cells : (a : Option ℕ) (cells : Cells) → (if is_some a then is_some (Some cells) else is_none (Some cells)) ≡ true → IsSome a
+holds-cells (Some x) cells h = refl
+holds-cells None cells h = absurd (cc h)
+
+last-and : (a b : Bool) → IsTrue (a && b) → IsTrue b
+last-and true b h = h
+last-and false b h = absurd cc
+
+pub can-end : (p : Parts) (c : ℕ) (cells : Option Cells) → Stands p → MayAsk p.declarations p.history.past c (Ask.End cells) → IfSome cells (λ cs. CanGive p.atomics c)
+can-end p c None s may = tt
+can-end p c (Some cells) s may =
+    let o = asks-open p.declarations p.history.past c (Ask.End (Some cells)) may.may in
+    let placed = last-and _ (is_placed (context p.history.past c) (holds p.declarations p.history.past c) (Ask.End (Some cells))) may.may in
+    record {
+      graph = p.declarations;
+      steps = atomic_steps p.declarations p.history.past;
+      stands = s.atomics;
+      core = may.core;
+      holds = subst (λ (a : Option ℕ). IsSome a) (sym ((atomics p 0 [] s).held c o.0 o.1)) (holds-cells (holds p.declarations p.history.past c) cells placed);
+    }
+
 pub end-room : (p : Parts) (c lost : ℕ) (cells : Option Cells) → Stands p → MayAsk p.declarations p.history.past c (Ask.End cells) → lost ≡ length (held p.history.past c)
     → HasRoom p (end_of_context lost cells)
 end-room p c lost cells s may count =
@@ -89,17 +114,19 @@ end-room p c lost cells s may count =
 
 pub end-stands : (p q : Parts) (c lost : ℕ) (cells : Option Cells) → Stands p → MayAsk p.declarations p.history.past c (Ask.End cells) → lost ≡ length (held p.history.past c)
     → pools.Stands q.pools (Lost c (length p.history.past) ∷ steps_of p) → q.pools.pools ≡ p.pools.pools → q.pools.spare ≡ p.pools.spare
+    → AtomicsStand p.declarations q.atomics (ended_steps true cells c (atomic_steps p.declarations p.history.past))
     → q.contexts.items ≡ slice_set p.contexts.items c Opening.Closed
-    → Stands (record p { history = pushed p c (end_of_context lost cells); pools = q.pools; contexts = q.contexts })
-end-stands p q c lost cells s may count stands shapes spare opens =
-    at-rest (record p { history = pushed p c (end_of_context lost cells); pools = q.pools; contexts = q.contexts }) c
-    (begun p (record p { pools = q.pools; contexts = q.contexts }) 0 c (What.End lost cells) [] s may.core
+    → Stands (record p { history = pushed p c (end_of_context lost cells); pools = q.pools; atomics = q.atomics; contexts = q.contexts })
+end-stands p q c lost cells s may count stands shapes spare given opens =
+    at-rest (record p { history = pushed p c (end_of_context lost cells); pools = q.pools; atomics = q.atomics; contexts = q.contexts }) c
+    (begun p (record p { pools = q.pools; atomics = q.atomics; contexts = q.contexts }) 0 c (What.End lost cells) [] s may.core
     (Asks (Ask.End cells) may.may (end-gives p c lost cells count)) refl (end-cause p c lost cells s may) tt
     (record {
       pools = stands;
       pool_shape = shapes;
       queues = settled-queues p 0 s;
       queue_shape = refl;
+      atomics = subst (λ (b : Bool). AtomicsStand p.declarations q.atomics (ended_steps b cells c (atomic_steps p.declarations p.history.past))) (sym (ap is_empty (untaken p 0 c s))) given;
       ready = tt;
       kept = kept-same p.declarations p.history.past (entry_by c (What.End lost cells) ∷ p.history.past) p.kept (λ x. refl) s.kept;
       cores = ap length opens ∙ length-set p.contexts.items c Opening.Closed;

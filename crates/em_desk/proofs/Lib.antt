@@ -13,6 +13,7 @@ mod Allocs
 mod Sends
 mod KeptEvents
 mod Ends
+mod EarlyEnds
 mod Made
 mod Below
 mod Fronts
@@ -26,3 +27,5 @@ mod Ended
 mod Built
 mod TakeAnswers
 mod QueueSets
+mod AtomicSets
+mod HeldAtomics

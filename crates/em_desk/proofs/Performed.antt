@@ -152,6 +152,7 @@ performed p q c a acts s pool_stands shapes spare queue_stands same = by_says a.
           queues = queue_stands p.declarations s.queue s.queues;
           queue_lag = s.queue_lag;
           queue_shape = same ∙ s.queue_shape;
+          atomics = s.atomics;
           ready = ready;
           kept = s.kept;
           cores = s.cores;
@@ -180,6 +181,7 @@ performed p q c a acts s pool_stands shapes spare queue_stands same = by_says a.
           queues = queue_stands p.declarations s.queue s.queues;
           queue_lag = s.queue_lag;
           queue_shape = same ∙ s.queue_shape;
+          atomics = s.atomics;
           ready = ready;
           kept = record { count = s.kept.count; room = s.kept.room; lists = s.kept.lists; once = s.kept.once; below = s.kept.below };
           cores = s.cores;

@@ -1,6 +1,6 @@
 -- A core takes the first event of a queue, and its receive starts.
-use Rattle.std.proofs.Common.{◌≡◌, ◌≢◌, ℕ, zero, suc, ◌+◌, ◌<◌, ◌≤◌, ◌==◌, true, [], ◌∷◌, List, None, Some, Option, length, map, take, drop, refl, sym, ap, ◌∙◌, subst, arith, slice_set}
-use Rattle.std.specs.Option.{option_map, option_and_then}
+use Rattle.std.proofs.Common.{◌≡◌, ◌≢◌, ℕ, zero, suc, ◌+◌, ◌-◌, ◌<◌, ◌≤◌, ◌==◌, Bool, true, false, min, [], ◌∷◌, List, None, Some, Option, is_some, if◌then◌else◌, length, map, take, drop, refl, sym, ap, ◌∙◌, subst, arith, slice_set}
+use Rattle.std.specs.Option.{option_map, option_map_or, option_and_then}
 use Rattle.std.proofs.lemmas.Bool.{eq-eqb}
 use Rattle.std.proofs.lemmas.List.{length-set, get_or-set_same, get_or-set_other}
 use Rattle.em_log.specs.declared.ask.Context.{Context}
@@ -10,12 +10,14 @@ use Rattle.em_log.specs.declared.entry.What.{What}
 use Rattle.em_log.specs.declared.ids.QueueId.{QueueId}
 use Rattle.em_log.specs.declared.ids.Stamp.{Stamp}
 use Rattle.em_log.specs.History.{Past, entry_by, entries_by, onto, index_of}
-use Rattle.em_log.specs.Declarations.{event_total, kind_of, object_of}
+use Rattle.em_log.specs.declared.declarations.Declarations.{Declarations}
+use Rattle.em_log.specs.declared.ids.Cells.{Cells}
+use Rattle.em_log.specs.Declarations.{event_total, kind_of, object_of, is_atomic, atomic_of}
 use Rattle.em_log.specs.Contexts.{context, object_begun}
 use Rattle.em_log.specs.Order.{Ticket}
 use Rattle.em_log.specs.Arrivals.{Item}
-use Rattle.em_log.specs.Places.{taken, gone}
-use Rattle.em_log.specs.Atomic.{cells}
+use Rattle.em_log.specs.Places.{waiting, taken, gone, promised}
+use Rattle.em_log.specs.Atomic.{holder, holds, cells}
 use Rattle.em_log.specs.Eligible.{is_choice, take_size, ticket_drawn}
 use Rattle.em_log.specs.Leads.{event_with, item_again}
 use Rattle.em_log.specs.Tails.{tail, first_start}
@@ -24,6 +26,10 @@ use Rattle.em_log.specs.Answers.{block, context_told, context_from, taken_as, ob
 use Rattle.em_moments.proofs.Choices.{IsReady, choice-ready}
 use Rattle.em_laws.proofs.Cores.{Compared, Same, Other, compared}
 use Rattle.em_bounds.specs.Paid.{paid}
+use Rattle.em_atomic.specs.Steps.{AtomicStep}
+use Rattle.em_atomic.specs.Holding as part
+use Rattle.em_context_parts.specs.AtomicSteps.{atomic_steps, grabbed_steps}
+use Rattle.em_context_parts.proofs.AtomicCells.{atomics-alike}
 use Rattle.em_pool.specs.declared.place.Place.{Place}
 use Rattle.em_pool.specs.Steps.{PoolStep, Minted, Shifted}
 use Rattle.em_pool.specs.Handles as pool
@@ -37,6 +43,7 @@ use Rattle.em_parts.specs.QueueAlike.{index_in}
 use Rattle.em_parts.proofs.QueueLists.{queues-alike, served-output}
 use Rattle.em_desk.specs.declared.opening.Opening.{Opening}
 use Rattle.em_desk.specs.declared.parts.Parts.{Parts}
+use Rattle.em_desk.specs.Atomics.{cells_of, AtomicsStand, CanGrab}
 use Rattle.em_desk.specs.Openings.{opening_at, opening_of}
 use Rattle.em_log.specs.Allowance.{allowance}
 use Rattle.em_bounds.specs.Room.{left_open, lefts, needed}
@@ -45,13 +52,13 @@ use Rattle.em_bounds.proofs.Room.{lefts-more, other-left}
 use Rattle.em_desk.specs.Standing.{Stands}
 use Rattle.em_desk.specs.Starts.{IsNext, take_room}
 use Rattle.em_desk.proofs.Asked.{steps_of, kept-same}
-use Rattle.em_desk.proofs.Begun.{pushed, HasRoom, has-room-by, all-with, settled-pools, settled-queues}
+use Rattle.em_desk.proofs.Begun.{pushed, HasRoom, has-room-by, all-with, untaken, atomics, settled-pools, settled-queues}
 use Rattle.em_desk.proofs.Contexts.{opening-other}
 use Rattle.em_desk.proofs.KeptEvents.{HasObject, has-object}
 use Rattle.em_desk.proofs.Fronts.{IsFront, is-front, front-last, front-again, front-listed}
-use Rattle.em_desk.proofs.Ready.{declared-queue, choice-runs}
+use Rattle.em_desk.proofs.Ready.{declared-queue, choice-runs, choice-fits, choice-free}
 use Rattle.em_desk.proofs.Rooms.{lefts-most}
-use Rattle.em_desk.proofs.Unordered.{Unstamped, unordered, waits-unordered, undrawn, no-ticket, unheld, untaken}
+use Rattle.em_desk.proofs.Unordered.{Unstamped, unordered, waits-unordered, undrawn, no-ticket}
 
 abbrev pub take_of : QueueId → What
 take_of q = What.Take q 1 None
@@ -68,6 +75,27 @@ drop-unstamped zero xs a = a
 drop-unstamped (suc n) [] a = tt
 drop-unstamped (suc n) (x ∷ xs) a = drop-unstamped n xs a.1
 
+-- a take takes one event
+size-one : (p : Parts) (c q : ℕ) → Stands p → is_choice p.declarations p.limits p.history.past c q ≡ true → IsReady p.declarations p.history.past c q
+    → take_size p.declarations p.limits p.history.past c q ≡ 1
+size-one p c q s choice r = by_kind (is_atomic (kind_of p.declarations q))
+  where
+    room : promised p.declarations p.history.past < p.limits.receives
+    room = choice-fits p c q choice
+
+    some : length (waiting p.declarations p.history.past q c) ≡ suc (length r.waits.1.0)
+    some = ap length r.waits.1.1
+
+    least : 1 ≤ p.limits.burst
+    least = s.fixed.limits.some_burst
+
+    most : p.limits.burst ≤ 1
+    most = s.fixed.limits.most_burst
+
+    by_kind : (b : Bool) → (if b then min p.limits.burst (min (length (waiting p.declarations p.history.past q c)) (p.limits.receives - promised p.declarations p.history.past)) else 1) ≡ 1
+    by_kind true = omega (arith, least, most, room, some)
+    by_kind false = refl
+
 pub is-first : (p : Parts) (c : ℕ) (q : QueueId) → Stands p → is_choice p.declarations p.limits p.history.past c q.0 ≡ true → IsFirst p c q
 is-first p c q s choice =
     let k = p.declarations in
@@ -76,16 +104,16 @@ is-first p c q s choice =
     let x = r.waits.0 in
     let xs = r.waits.1.0 in
     let u = unordered k p.limits past s.all s.served in
-    let kinds = undrawn k past q.0 (waits-unordered k past q.0 c x xs u r.waits.1.1) in
+    let ordered = undrawn k q.0 (waits-unordered k past q.0 c x xs u r.waits.1.1) in
     let f = is-front p c q x xs s (served-output (kind_of k q.0) r.served) r.waits.1.1 in
     let stamps = subst Unstamped f.waits (drop-unstamped (gone k past q.0 c) _ (u.stamps q.0 c)) in
-    let atomic = kinds.1 in
-    let ordered = kinds.0 in
+    let ticket : ticket_drawn k past q.0 ≡ None = rw ordered refl in
+    let size = size-one p c q.0 s choice r in
     record {
       ready = r;
       front = f;
       stamp = stamps.0;
-      take = rw (atomic, ordered) refl;
+      take = λ i. What.Take q (size i) (ticket i);
     }
 
 -- the two entries
@@ -136,7 +164,7 @@ pool-now p c q e f =
 
 pub none-taken : (p : Parts) (c : ℕ) → Stands p → (lists p.declarations (queue_steps p.declarations p.history.past)).taken c ≡ []
 none-taken p c s =
-    (queues-alike p.declarations p.limits p.history.past s.all).taken c ∙ ap (map index_in) (untaken p.declarations p.limits p.history.past c s.all s.served s.due)
+    (queues-alike p.declarations p.limits p.history.past s.all).taken c ∙ ap (map index_in) (untaken p 0 c s)
 
 -- room
 
@@ -170,9 +198,10 @@ pub received : (p q' : Parts) (c : ℕ) (q : QueueId) (f : IsFirst p c q) → St
     → pools.Stands q'.pools (Minted c (item_again p.history.past f.front.item) ∷ Shifted (index_of f.front.item.handle) (Place.Taken (record { 0 = c })) ∷ steps_of p)
     → q'.pools.pools ≡ p.pools.pools → q'.pools.spare + 1 ≡ p.pools.spare
     → queues.Stands p.declarations q'.queues (NextTaken c ∷ Took c q.0 1 ∷ queue_steps p.declarations p.history.past) → shape q'.queues ≡ shape p.queues
+    → AtomicsStand p.declarations q'.atomics (grabbed_steps (atomic_of p.declarations q.0) c (atomic_steps p.declarations p.history.past))
     → q'.contexts.items ≡ slice_set p.contexts.items c (Opening.Body (Some (object_id (object_of p.declarations q.0)))) → q'.started ≡ p.started + 1 → p.started ≢ p.limits.receives
-    → Stands (record p { history = record p.history { past = after_take p.history.past c q (item_again p.history.past f.front.item) }; pools = q'.pools; queues = q'.queues; contexts = q'.contexts; started = q'.started })
-received p q' c q f s lt choice room spare pool_stands shapes minted queue_stands same opens count less =
+    → Stands (record p { history = record p.history { past = after_take p.history.past c q (item_again p.history.past f.front.item) }; pools = q'.pools; queues = q'.queues; atomics = q'.atomics; contexts = q'.contexts; started = q'.started })
+received p q' c q f s lt choice room spare pool_stands shapes minted queue_stands same held opens count less =
     record {
       fixed = record { graph = s.fixed.graph; limits = s.fixed.limits; cores = s.fixed.cores; allowed = s.fixed.allowed };
       all = start-all p c q s lt choice f;
@@ -187,6 +216,7 @@ received p q' c q f s lt choice room spare pool_stands shapes minted queue_stand
       queues = queue_stands;
       queue_lag = refl;
       queue_shape = same ∙ s.queue_shape;
+      atomics = held;
       ready = tt;
       kept = kept-same p.declarations p.history.past (after_take p.history.past c q (item_again p.history.past f.front.item)) p.kept (λ x. refl) s.kept;
       cores = ap length opens ∙ (length-set p.contexts.items c _ ∙ s.cores);
@@ -268,29 +298,77 @@ again-at p c q e s f answer =
     ((settled-queues p 0 s).waiting q.0 c ∙ front-listed p c q s f.front) (front-last p c q f.front)
     ∙ front-again p c q f.front
 
+-- the atomic context
+
+pub can-grab : (p : Parts) (c : ℕ) (q : QueueId) → Stands p → c < p.declarations.cores → is_choice p.declarations p.limits p.history.past c q.0 ≡ true → IsFirst p c q → CanGrab p.atomics q.0 c
+can-grab p c q s lt choice f =
+    record {
+      graph = p.declarations;
+      steps = atomic_steps p.declarations p.history.past;
+      stands = s.atomics;
+      core = lt;
+      free = choice-free p c q.0 s choice;
+      idle = (atomics p 0 [] s).idle c f.ready.between.closed (untaken p 0 c s);
+    }
+
+held-now : (s : List AtomicStep) (c : ℕ) (o : Option ℕ) → part.held s c ≡ None → part.held (grabbed_steps o c s) c ≡ o
+held-now s c None idle = idle
+held-now s c (Some a) idle = let own = own-core c in rw own refl
+
+none-is : {A : Type 0} (o : Option A) → is_some o ≡ false → o ≡ None
+none-is None h = refl
+none-is (Some x) h = absurd cc
+
+pub begun-now : (past : Past) (c : ℕ) (q : QueueId) (e : Event) → context (after_take past c q e) c ≡ Some (start_by q e)
+begun-now past c q e = let own = own-core c in rw own refl
+
+-- the cells that the context comes with are those of the free atomic context
+pub cells-told : (p : Parts) (c : ℕ) (q : QueueId) (e : Event) → Stands p → is_choice p.declarations p.limits p.history.past c q.0 ≡ true → IsFirst p c q
+    → AllAllowed p.declarations p.limits (after_take p.history.past c q e)
+    → option_map (λ a. cells_as (cells p.declarations (after_take p.history.past c q e) a)) (holds p.declarations (after_take p.history.past c q e) c)
+    ≡ cells_of p.declarations (atomic_steps p.declarations p.history.past) q.0
+cells-told p c q e s choice f all =
+    ap (option_map (λ a. cells_as (cells k (after_take past c q e) a))) mine ∙ by_context (atomic_of k q.0) (choice-free p c q.0 s choice)
+  where
+    k : Declarations
+    k = p.declarations
+
+    past : Past
+    past = p.history.past
+
+    mine : holds k (after_take past c q e) c ≡ atomic_of k q.0
+    mine =
+        sym ((atomics-alike k p.limits (after_take past c q e) s.fixed.limits.some_burst all).held c (start_by q e) (begun-now past c q e))
+        ∙ held-now (atomic_steps k past) c (atomic_of k q.0) ((atomics p 0 [] s).idle c f.ready.between.closed (untaken p 0 c s))
+
+    by_context : (o : Option ℕ) → option_map_or (λ a. is_some (part.holder (atomic_steps k past) a)) o false ≡ false
+        → option_map (λ a. cells_as (cells k (after_take past c q e) a)) o ≡ option_map (λ a. cells_as (part.cells (atomic_steps k past) a)) o
+    by_context None free = refl
+    by_context (Some a) free =
+        let alike = atomics p 0 [] s in
+        let none : holder k past a ≡ None = sym (alike.holder a) ∙ none-is (part.holder (atomic_steps k past) a) free in
+        ap (λ (cs : List ℕ). Some (cells_as cs)) (sym (alike.cells a none))
+
 -- the context that has begun, as it is told
 
-pub told-by : (p : Parts) (c : ℕ) (q : QueueId) (e : Event) → Stands p → context p.history.past c ≡ Some (start_by q e)
+pub told-by : (p : Parts) (c : ℕ) (q : QueueId) (e : Event) (given : Option Cells) → Stands p → context p.history.past c ≡ Some (start_by q e)
+    → option_map (λ a. cells_as (cells p.declarations p.history.past a)) (holds p.declarations p.history.past c) ≡ given
     → context_told p.declarations p.history.past c
-    ≡ Some (Context.Receive (record { queue = q; eo = object_id (object_of p.declarations q.0); event = e; stamp = None; ticket = None; cells = None; rest = [] }))
-told-by p c q e s begun =
+    ≡ Some (Context.Receive (record { queue = q; eo = object_id (object_of p.declarations q.0); event = e; stamp = None; ticket = None; cells = given; rest = [] }))
+told-by p c q e given s begun comes =
     let k = p.declarations in
     let now = p.history.past in
-    let shown : Option ℕ → Option Ticket → Option ℕ → List Item → Option Context = λ x t a xs.
+    let shown : Option ℕ → Option Ticket → Option Cells → List Item → Option Context = λ x t cs xs.
     Some (Context.Receive (record {
       queue = q;
       eo = object_id x;
       event = e;
       stamp = None;
       ticket = option_map (λ t. t.number) t;
-      cells = option_map (λ a. cells_as (cells k now a)) a;
+      cells = cs;
       rest = map (taken_as now) xs;
     })) in
     let ticket = no-ticket k p.limits now c s.all s.served in
-    let atomic = unheld k p.limits now c s.all s.served in
-    let none = untaken k p.limits now c s.all s.served s.due in
+    let none = untaken p 0 c s in
     ap (option_and_then (context_from k now c)) begun
-    ∙ (λ i. shown (object_begun k now (begun i)) (ticket i) (atomic i) (none i))
-
-pub begun-now : (past : Past) (c : ℕ) (q : QueueId) (e : Event) → context (after_take past c q e) c ≡ Some (start_by q e)
-begun-now past c q e = let own = own-core c in rw own refl
+    ∙ (λ i. shown (object_begun k now (begun i)) (ticket i) (comes i) (none i))

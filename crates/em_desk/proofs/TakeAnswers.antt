@@ -8,6 +8,7 @@ use Rattle.em_log.specs.declared.ask.Reply.{Reply}
 use Rattle.em_log.specs.declared.declarations.Declarations.{Declarations}
 use Rattle.em_log.specs.declared.entry.Body.{Body}
 use Rattle.em_log.specs.declared.entry.What.{What}
+use Rattle.em_log.specs.declared.ids.Cells.{Cells}
 use Rattle.em_log.specs.declared.ids.EndKind.{EndKind}
 use Rattle.em_log.specs.declared.ids.EoId.{EoId}
 use Rattle.em_log.specs.declared.entry.Event.{Event}
@@ -66,8 +67,8 @@ pub over-by : (p : Parts) (os : List Opening) (e b : Bool) → Stands p → e �
     → b ≡ is_boot (opening_at os 0) → b ≡ false → boot_ended p.history.past ≡ true
 over-by p os e b s empty some same is off = boot-over p s (boots-by p os b false same is off) (some-entries p.history.past e empty some)
 
-abbrev pub receive_of : QueueId → EoId → Event → Context
-receive_of q x e = Context.Receive (record { queue = q; eo = x; event = e; stamp = None; ticket = None; cells = None; rest = [] })
+abbrev pub receive_of : QueueId → EoId → Event → Option Cells → Context
+receive_of q x e cells = Context.Receive (record { queue = q; eo = x; event = e; stamp = None; ticket = None; cells = cells; rest = [] })
 
 -- the core owes no step
 unowed : (p : Parts) (n : ℕ) (answer : Answer) (r : Reply) → Stands p → r ≡ record { answer = answer; owed = false } → r.owed ≡ is_some (step p.declarations p.history.past n)

@@ -1,29 +1,24 @@
--- Where each ask was served, no ticket is open, nothing has a stamp, and nothing enters a queue that draws tickets or is an atomic context.
-use Rattle.std.proofs.Common.{◌≡◌, ℕ, zero, suc, ◌==◌, Bool, true, false, not, ◌&&◌, List, [], ◌∷◌, ◌++◌, drop, Option, Some, None, refl, ap, sym, ◌∙◌, subst, if◌then◌else◌, IsTrue, slice_get, inl}
-use Rattle.std.specs.Option.{option_map, option_map_or, option_and_then}
+-- Where each ask was served, no ticket is open, nothing has a stamp, and nothing enters a queue that draws tickets.
+use Rattle.std.proofs.Common.{◌≡◌, ℕ, zero, suc, ◌==◌, Bool, true, false, not, ◌&&◌, List, [], ◌∷◌, ◌++◌, drop, Option, Some, None, refl, ap, sym, ◌∙◌, subst, if◌then◌else◌, IsTrue}
+use Rattle.std.specs.Option.{option_map}
 use Rattle.std.specs.List.{AllByRecursion}
 use Rattle.em_log.specs.declared.declarations.Declarations.{Declarations}
-use Rattle.em_log.specs.declared.declarations.QueueShape.{QueueShape}
 use Rattle.em_log.specs.declared.entry.What.{What}
 use Rattle.em_log.specs.declared.entry.Body.{Body}
 use Rattle.em_log.specs.declared.ids.Handle.{Handle}
-use Rattle.em_log.specs.declared.ids.Kind.{Kind}
 use Rattle.em_log.specs.declared.ids.Limits.{Limits}
 use Rattle.em_log.specs.declared.ids.QueueId.{QueueId}
 use Rattle.em_log.specs.declared.ids.Stamp.{Stamp}
 use Rattle.em_log.specs.History.{Past, entry_by}
-use Rattle.em_log.specs.Declarations.{kind_of, is_atomic, is_ordered, atomic_of, atomic_in}
-use Rattle.em_log.specs.Contexts.{context, context_after, take_queue, take_queue_after, receives_from}
+use Rattle.em_log.specs.Declarations.{kind_of, is_ordered}
+use Rattle.em_log.specs.Contexts.{context, context_after, take_queue, take_queue_after}
 use Rattle.em_log.specs.Handles.{Minting, minting}
 use Rattle.em_log.specs.Order.{Ticket, Sent, open_ticket, ticket_after, let_in}
 use Rattle.em_log.specs.Arrivals.{Item, item, item_of, arrivals, entering, with_items, is_for, open_notes}
 use Rattle.em_log.specs.Places.{waiting, taken, taken_after, gone}
-use Rattle.em_log.specs.Atomic.{holds, if_holder}
-use Rattle.em_log.specs.Lawful.{AllAllowed, is_boot_or_receive, due}
+use Rattle.em_log.specs.Lawful.{AllAllowed, is_boot_or_receive}
 use Rattle.em_moments.proofs.Moments.{Moment, EntersBoot, EntersStep, allowed-moment}
 use Rattle.em_laws.proofs.Cores.{Compared, Same, Other, compared, eqb-eq, none-some, some-inj}
-use Rattle.em_laws.proofs.Single.{single}
-use Rattle.em_laws.proofs.Started.{receives-queue}
 use Rattle.em_desk.specs.Served.{AllServed, is_served_entry, is_free_of_order}
 use Rattle.em_desk.proofs.Served.{no-notes, none-applied, no-step}
 
@@ -107,7 +102,7 @@ drop-none : (n : ℕ) (xs : List Item) → xs ≡ [] → drop n xs ≡ []
 drop-none zero xs is = is
 drop-none (suc n) xs is = rw is refl
 
--- a queue in which something waits draws no tickets, and is no atomic context
+-- a queue in which something waits draws no tickets
 pub waits-unordered : (k : Declarations) (past : Past) (q c : ℕ) (x : Item) (xs : List Item) → IsUnordered k past → waiting k past q c ≡ x ∷ xs → is_free_of_order k q ≡ true
 waits-unordered k past q c x xs u is = by_test (is_free_of_order k q) refl
   where
@@ -117,25 +112,19 @@ waits-unordered k past q c x xs u is = by_test (is_free_of_order k q) refl
         let none : waiting k past q c ≡ [] = drop-none (gone k past q c) (arrivals k past q c) (u.empty q c t) in
         absurd (cc (none, is))
 
-not-ordered : (a b : Bool) → (not a && not b) ≡ true → b ≡ false
-not-ordered true b h = absurd cc
-not-ordered false true h = absurd cc
-not-ordered false false h = refl
+not-ordered : (b : Bool) → not b ≡ true → b ≡ false
+not-ordered true h = absurd cc
+not-ordered false h = refl
 
-pub not-atomic : (a b : Bool) → (not a && not b) ≡ true → a ≡ false
-not-atomic true b h = absurd cc
-not-atomic false b h = refl
-
-pub undrawn : (k : Declarations) (past : Past) (q : ℕ) → is_free_of_order k q ≡ true → (is_ordered (kind_of k q) ≡ false) × (is_atomic (kind_of k q) ≡ false)
-undrawn k past q free =
-    (not-ordered (is_atomic (kind_of k q)) (is_ordered (kind_of k q)) free, not-atomic (is_atomic (kind_of k q)) (is_ordered (kind_of k q)) free)
+pub undrawn : (k : Declarations) (q : ℕ) → is_free_of_order k q ≡ true → is_ordered (kind_of k q) ≡ false
+undrawn k q free = not-ordered (is_ordered (kind_of k q)) free
 
 ticket-next : (k : Declarations) (l : Limits) (past : Past) (d : ℕ) (w : What) (was : Option Ticket) → IsTrue (is_served_entry k w) → IsUnordered k past → Moment k l past d w
     → was ≡ None → ticket_after w was ≡ None
 ticket-next k l past d (What.Take q n t) was served u m none =
     let w = m.ready.waits in
     let free = waits-unordered k past q.0 d w.0 w.1.0 u w.1.1 in
-    let o = (undrawn k past q.0 free).0 in
+    let o = undrawn k q.0 free in
     let none_drawn : t ≡ None = m.ticket ∙ (rw o refl) in rw none_drawn refl
 ticket-next k l past d What.EndOrdered was served u m none = refl
 ticket-next k l past d (What.End lost cells) was served u m none = refl
@@ -193,37 +182,6 @@ taken-first k (e ∷ past) c none = by_core (compared e.core.0 c) (taken-first k
     by_core : Compared e.core.0 c → (take_queue past c ≡ None → taken k past c ≡ []) → taken k (e ∷ past) c ≡ []
     by_core (Same t same) older = rw t (taken-next k past c e.what older (rw t at none))
     by_core (Other f other) older = rw f (older (rw f at none))
-
--- between asks nothing is taken and not started
-pub untaken : (k : Declarations) (l : Limits) (past : Past) (c : ℕ) → AllAllowed k l past → AllServed k past → due k past ≡ [] → taken k past c ≡ []
-untaken k l past c all s none = by_taken (taken k past c) refl (take_queue past c) refl
-  where
-    by_taken : (xs : List Item) → taken k past c ≡ xs → (o : Option ℕ) → take_queue past c ≡ o → taken k past c ≡ []
-    by_taken [] is o from = is
-    by_taken (x ∷ xs) is None from = taken-first k past c from
-    by_taken (x ∷ xs) is (Some q) from =
-        let free = (unordered k l past all s).takes c q from in
-        let one = single k l past all c q ((λ none. absurd (cc (none, is))), from) (inl (undrawn k past q free).1) in
-        absurd (cc (one.due, none))
-
-pub atomic-none : (k : Declarations) (q : ℕ) → is_atomic (kind_of k q) ≡ false → atomic_of k q ≡ None
-atomic-none k q off = by_shape (slice_get k.queues q) off
-  where
-    by_shape : (o : Option QueueShape) → is_atomic (option_map_or (λ d. d.kind) o Kind.Unscheduled) ≡ false → option_and_then (atomic_in k q) o ≡ None
-    by_shape None off = refl
-    by_shape (Some d) off = rw off refl
-
--- no atomic context is held by a receive
-pub unheld : (k : Declarations) (l : Limits) (past : Past) (c : ℕ) → AllAllowed k l past → AllServed k past → holds k past c ≡ None
-unheld k l past c all s = by_queue (receives_from past c) refl
-  where
-    by_queue : (o : Option ℕ) → receives_from past c ≡ o → holds k past c ≡ None
-    by_queue None from = ap (λ (o : Option ℕ). option_and_then (if_holder k past c) (option_and_then (atomic_of k) o)) from
-    by_queue (Some q) from =
-        let free = (unordered k l past all s).takes c q (receives-queue k l past all c q from) in
-        let none : atomic_of k q ≡ None = atomic-none k q (undrawn k past q free).1 in
-        ap (λ (o : Option ℕ). option_and_then (if_holder k past c) (option_and_then (atomic_of k) o)) from
-        ∙ ap (option_and_then (if_holder k past c)) none
 
 -- every open context is boot or a receive
 

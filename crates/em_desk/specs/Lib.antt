@@ -4,6 +4,7 @@ pub mod State
 pub mod Openings
 pub mod Lines
 pub mod Histories
+pub mod Atomics
 pub mod Acts
 pub mod Standing
 pub mod Choices

@@ -7,12 +7,12 @@ use Rattle.em_log.specs.declared.entry.Begun.{Begun}
 use Rattle.em_log.specs.declared.entry.What.{What}
 use Rattle.em_log.specs.declared.ids.Note.{Note}
 use Rattle.em_log.specs.History.{Past}
-use Rattle.em_log.specs.Declarations.{kind_of, is_atomic, is_ordered}
+use Rattle.em_log.specs.Declarations.{kind_of, is_ordered}
 use Rattle.em_log.specs.States.{closed}
 
--- a receive of such a queue has no ticket and no atomic context
+-- a receive of such a queue has no ticket
 abbrev pub is_free_of_order : Declarations → ℕ → Bool
-is_free_of_order k q = not (is_atomic (kind_of k q)) && not (is_ordered (kind_of k q))
+is_free_of_order k q = not (is_ordered (kind_of k q))
 
 -- whether the desk serves sends to the queue: it is such a one, and open as it is declared
 abbrev pub serves_queue : Declarations → ℕ → Bool
@@ -28,6 +28,7 @@ served k Ask.Claim = true
 served k (Ask.Dequeue q) = true
 served k Ask.Cell = true
 served k (Ask.Say v) = true
+served k (Ask.EndAtomic cells) = true
 served k (Ask.End cells) = true
 served k ask = false
 

@@ -16,6 +16,8 @@ use Rattle.em_parts.specs.QueueSteps.{queue_steps}
 use Rattle.em_desk.specs.declared.acts.Act.{Act}
 use Rattle.em_desk.specs.declared.parts.Parts.{Parts}
 use Rattle.em_desk.specs.declared.desk.Desk.TheInside.{Inside}
+use Rattle.em_context_parts.specs.AtomicSteps.{atomic_steps}
+use Rattle.em_desk.specs.Atomics.{AtomicsStand}
 use Rattle.em_desk.specs.Graphs.{AreInBounds, AreInRange}
 use Rattle.em_desk.specs.Served.{AllServed}
 use Rattle.em_desk.specs.Acts.{said, pool_acts, queue_acts, AreReady}
@@ -59,7 +61,7 @@ pub record Standing (p : Parts) (c : ℕ) (acts : List Act) : Type 0 where
   pub served : AllServed p.declarations p.history.past
   pub core : IsCore p.declarations c acts
   pub due : due p.declarations p.history.past ≡ entries_by c (said acts)
-  -- the pools and the queues stand for steps to which the acts add what is missing
+  -- the pools and the queues stand for steps to which the acts add what is missing, and the atomic contexts for all of theirs
   pub pool : List PoolStep
   pub pools : pools.Stands p.pools pool
   pub pool_lag : pool_steps p.declarations p.history.past ≡ pool_acts acts pool
@@ -68,6 +70,7 @@ pub record Standing (p : Parts) (c : ℕ) (acts : List Act) : Type 0 where
   pub queues : queues.Stands p.declarations p.queues queue
   pub queue_lag : queue_steps p.declarations p.history.past ≡ queue_acts acts queue
   pub queue_shape : shape p.queues ≡ shape_of p.declarations
+  pub atomics : AtomicsStand p.declarations p.atomics (atomic_steps p.declarations p.history.past)
   pub ready : AreReady p.declarations pool queue acts
   pub kept : AreKept p.declarations p.history.past p.kept
   pub cores : length p.contexts.items ≡ p.declarations.cores

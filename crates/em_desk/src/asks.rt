@@ -31,6 +31,7 @@ impl Parts {
             Ask::Dequeue(queue) => self.dequeue(core, queue),
             Ask::Cell => self.cell(core),
             Ask::Say(value) => self.say(core, value),
+            Ask::EndAtomic(cells) => self.end_atomic(core, cells),
             Ask::End(cells) => self.end(core, cells),
             _ => Outcome::Done,
         }
@@ -201,7 +202,23 @@ impl Parts {
         Outcome::Done
     }
 
-    /// Ends the context: what it holds is lost.
+    /// Gives the atomic context of the context back early, with these cells.
+    fn end_atomic(&mut self, core: CoreId, cells: Cells) -> Outcome
+        requires stands { Stands self.old }
+        requires may { MayAsk self.old.declarations self.old.history.past core.0 (TheAsk.EndAtomic cells) }
+        ensures stands { Stands self.new }
+        ensures adds { Adds self.old self.new core.0 (lead self.old.declarations self.old.history.past core.0 (TheAsk.EndAtomic cells)) result }
+    {
+        if self.atomics.contexts.held(core).is_none() {
+            return self.refuse(core, Call::EndAtomic, Fault::NotAtomic);
+        }
+        let rest = self.queues.untake(core);
+        self.atomics.give(core, cells);
+        self.history.push(core, What::EndAtomic { rest, cells });
+        Outcome::Done
+    }
+
+    /// Ends the context: what it holds is lost, and its atomic context is free again.
     fn end(&mut self, core: CoreId, cells: Option<Cells>) -> Outcome
         requires stands { Stands self.old }
         requires may { MayAsk self.old.declarations self.old.history.past core.0 (TheAsk.End cells) }
@@ -210,6 +227,7 @@ impl Parts {
     {
         let place = self.history.place();
         let lost = self.pools.lose(core, place);
+        self.atomics.give_back(core, cells);
         self.history.push(core, What::End { lost, cells });
         self.contexts[usize::from(core.0)] = Opening::Closed;
         Outcome::Done

@@ -10,7 +10,7 @@ ghost use Rattle.em_desk.specs.Choices.{is_allowed, runs_in, has_core_in, AreAll
 
 use bitflags::Flags;
 use em_log::{CoreId, Declarations, EoId, GroupId, NoMemory, QueueId, QueueShape};
-use em_queues::{Allowed, Queues};
+use em_queues::{Allowed, QueueSet, Queues};
 use std::alloc::Global;
 
 /// The mask of the cores below this number.
@@ -112,15 +112,15 @@ pub fn allowed(alloc: Global, declarations: &Declarations) -> Result<Vec<Allowed
     Ok(sets)
 }
 
-/// Whether something waits for some core in a queue that it may take from.
-pub fn any_ready(queues: &Queues, allowed: &[Allowed]) -> bool
+/// Whether something waits for some core in a queue that it may take from, and whose atomic context nobody holds.
+pub fn any_ready(queues: &Queues, allowed: &[Allowed], held: &QueueSet) -> bool
     requires cores { length allowed.now ≤ (shape queues.now).cores }
     requires few { length allowed.now ≤ core_limit }
-    ensures { IsAnyReady result queues.now allowed.now }
+    ensures { IsAnyReady result queues.now allowed.now held.now }
 {
     let mut core: u8 = 0;
     for may in allowed {
-        if queues.best(CoreId(core), may).is_some() {
+        if queues.best(CoreId(core), &may.without(held)).is_some() {
             return true;
         }
         core += 1;

@@ -13,6 +13,7 @@ ghost use Rattle.em_laws.specs.AllLaws.{KeepsLaws};
 ghost use Rattle.em_desk.specs.Served.{served, AllServed};
 ghost use Rattle.em_desk.specs.State.{DeskState, IsSameRun, IsWaited, IsAnswered};
 
+use crate::atomic_queues::AtomicQueues;
 use crate::choices::allowed;
 use crate::entries::{received, rest, told};
 use crate::history::History;
@@ -21,6 +22,7 @@ use crate::opening::{closed, is_booting};
 use crate::outcome::reply;
 use crate::parts::Parts;
 use crate::shapes::{event_count, object_of};
+use crate::takes::Received;
 use em_log::{
     Answer, Ask, Config, Context, CoreId, EndKind, Entry, Limits, Locals, NoMemory, Reply, declare,
 };
@@ -58,6 +60,7 @@ impl Desk {
         let allowed = allowed(alloc, &declarations)?;
         let pools = Pools::build(alloc, config)?;
         let queues = Queues::build(alloc, config)?;
+        let atomics = AtomicQueues::build(alloc, config, &declarations)?;
         let events = event_count(&declarations);
         let kept = Lines::build(alloc, declarations.running.as_slice().len() as u16, events)?;
         let contexts = closed(alloc, declarations.cores)?;
@@ -69,6 +72,7 @@ impl Desk {
                 history: History::new(alloc),
                 pools,
                 queues,
+                atomics,
                 kept,
                 contexts,
                 started: 0,
@@ -107,8 +111,9 @@ impl Desk {
         let Some(queue) = self.parts.choice(core) else {
             return Ok(told(rest(self.parts.end_kind())));
         };
-        let event = self.parts.receive(core, queue);
-        Ok(told(received(queue, object_of(&self.parts.declarations, queue), event)))
+        let Received { event, cells } = self.parts.receive(core, queue);
+        let object = object_of(&self.parts.declarations, queue);
+        Ok(told(received(queue, object, event, cells)))
     }
 
     /// An ask of the core's open context, which has enough left of its allowance. It adds the entry that the ask gives

@@ -4,7 +4,7 @@ ghost use Rattle.em_log.specs.declared.ask.Answer.{Answer as TheAnswer};
 ghost use Rattle.em_desk.specs.Answers.{rest_of};
 ghost use Rattle.em_log.specs.declared.ask.Context.{Context as TheContext};
 
-use em_log::{Answer, Context, EndKind, EoId, Event, QueueId, Receive, Reply, Rest};
+use em_log::{Answer, Cells, Context, EndKind, EoId, Event, QueueId, Receive, Reply, Rest};
 
 /// A reply after which no step is owed.
 pub fn told(answer: Answer) -> Reply
@@ -27,9 +27,9 @@ pub fn rest(ended: Option<EndKind>) -> Answer
     }
 }
 
-/// The context of a receive with no ticket, cells or further events.
-pub fn received(queue: QueueId, eo: EoId, event: Event) -> Answer
-    ensures { result ≡ TheAnswer.Context (TheContext.Receive (record { queue = queue; eo = eo; event = event; stamp = None; ticket = None; cells = None; rest = [] })) }
+/// The context of a receive with no ticket or further events.
+pub fn received(queue: QueueId, eo: EoId, event: Event, cells: Option<Cells>) -> Answer
+    ensures { result ≡ TheAnswer.Context (TheContext.Receive (record { queue = queue; eo = eo; event = event; stamp = None; ticket = None; cells = cells; rest = [] })) }
 {
     Answer::Context(Context::Receive(Receive {
         queue,
@@ -37,7 +37,7 @@ pub fn received(queue: QueueId, eo: EoId, event: Event) -> Answer
         event,
         stamp: None,
         ticket: None,
-        cells: None,
+        cells,
         rest: Rest::new(),
     }))
 }

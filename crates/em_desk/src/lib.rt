@@ -3,6 +3,7 @@
 
 mod acts;
 mod asks;
+mod atomic_queues;
 mod choices;
 pub mod desk;
 mod entries;

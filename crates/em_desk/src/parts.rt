@@ -1,4 +1,5 @@
 //! The parts of a desk.
+use crate::atomic_queues::AtomicQueues;
 use crate::history::History;
 use crate::lines::Lines;
 use crate::opening::Opening;
@@ -7,8 +8,8 @@ use em_pool::Pools;
 use em_queues::{Allowed, Queues};
 
 /// The declarations of a graph and the limits of a run; which queues each core may take from; the history so far; the
-/// events; what waits in the queues; the events that each object keeps; the open context of each core; and how many
-/// receives have started.
+/// events; what waits in the queues; the atomic contexts; the events that each object keeps; the open context of each core;
+/// and how many receives have started.
 #[derive(Drop)]
 pub struct Parts {
     pub declarations: Declarations,
@@ -17,6 +18,7 @@ pub struct Parts {
     pub history: History,
     pub pools: Pools,
     pub queues: Queues,
+    pub atomics: AtomicQueues,
     pub kept: Lines,
     pub contexts: Vec<Opening>,
     pub started: u16,

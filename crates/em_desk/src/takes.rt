@@ -26,13 +26,20 @@ use crate::choices::any_ready;
 use crate::opening::{Opening, are_closed};
 use crate::parts::Parts;
 use crate::shapes::object_of;
-use em_log::{Body, CoreId, EndKind, Event, MAX_CORES, NoMemory, QueueId, What};
+use em_log::{Body, Cells, CoreId, EndKind, Event, MAX_CORES, NoMemory, QueueId, What};
 use em_pool::{Place, Pools};
 use em_queues::Queues;
 
 /// The most that a take may pay, and what the contexts may pay that are open then: a take and a start with the end of
 /// each, and the allowance of each core.
 const ROOM: usize = 4 + 256 * MAX_CORES as usize;
+
+/// What a receive comes with: its event, and the cells of its atomic context, if it has one.
+#[derive(Drop)]
+pub struct Received {
+    pub event: Event,
+    pub cells: Option<Cells>,
+}
 
 /// Takes the first event that waits for the core in the queue, and mints it for the core.
 fn start(pools: &mut Pools, queues: &mut Queues, core: CoreId, queue: QueueId) -> Event
@@ -95,7 +102,8 @@ impl Parts {
         if self.started == self.limits.receives {
             return None;
         }
-        self.queues.best(core, &self.allowed[usize::from(core.0)])
+        let may = self.allowed[usize::from(core.0)].without(&self.atomics.held);
+        self.queues.best(core, &may)
     }
 
     /// How the history has ended, if it has.
@@ -106,7 +114,7 @@ impl Parts {
         if self.history.is_empty() || !are_closed(self.contexts.as_slice()) {
             return None;
         }
-        if !any_ready(&self.queues, self.allowed.as_slice()) {
+        if !any_ready(&self.queues, self.allowed.as_slice(), &self.atomics.held) {
             return Some(EndKind::Quiet);
         }
         if self.started == self.limits.receives {
@@ -115,8 +123,8 @@ impl Parts {
         None
     }
 
-    /// Takes the first event that waits for the core in the queue, and starts its receive.
-    pub fn receive(&mut self, core: CoreId, queue: QueueId) -> Event
+    /// Takes the first event that waits for the core in the queue, with the atomic context of the queue, and starts its receive.
+    pub fn receive(&mut self, core: CoreId, queue: QueueId) -> Received
         requires stands { Stands self.old }
         requires choice { is_choice self.old.declarations self.old.limits self.old.history.past core.0 queue.0 ≡ true }
         requires core { core.0 < self.old.declarations.cores }
@@ -124,7 +132,7 @@ impl Parts {
         requires mintings { take_room ≤ self.old.pools.spare }
         ensures stands { Stands self.new }
         ensures past { self.new.history.past ≡ block self.old.declarations self.old.history.past (entry_by core.0 (TheWhat.Take queue 1 None)) }
-        ensures told { context_told self.old.declarations self.new.history.past core.0 ≡ Some (TheContext.Receive (record { queue = queue; eo = object_id (object_of_queue self.old.declarations queue.0); event = result; stamp = None; ticket = None; cells = None; rest = [] })) }
+        ensures told { context_told self.old.declarations self.new.history.past core.0 ≡ Some (TheContext.Receive (record { queue = queue; eo = object_id (object_of_queue self.old.declarations queue.0); event = result.event; stamp = None; ticket = None; cells = result.cells; rest = [] })) }
         ensures declarations { self.new.declarations ≡ self.old.declarations }
         ensures limits { self.new.limits ≡ self.old.limits }
     {
@@ -137,6 +145,7 @@ impl Parts {
             },
         );
         let event = start(&mut self.pools, &mut self.queues, core, queue);
+        let cells = self.atomics.grab(queue, core);
         self.history.push(
             core,
             What::Start {
@@ -150,6 +159,6 @@ impl Parts {
             queue,
         )));
         self.started += 1;
-        event
+        Received { event, cells }
     }
 }

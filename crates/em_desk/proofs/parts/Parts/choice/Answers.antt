@@ -1,4 +1,4 @@
-use Rattle.std.proofs.Common.{◌≡◌, ◌≢◌, ◌<◌, ℕ, length, get_or, true, false, Option, Some, None, subst, arith}
+use Rattle.std.proofs.Common.{◌≡◌, ◌≢◌, ◌∙◌, ◌&&◌, not, ◌<◌, ℕ, length, get_or, true, false, Option, Some, None, subst, arith}
 use Rattle.std.specs.Option.{MatchOption}
 use Rattle.em_log.specs.declared.ids.QueueId.{QueueId}
 use Rattle.em_log.specs.Eligible.{is_choice}
@@ -9,17 +9,16 @@ use Rattle.em_queues.specs.Steps.{lists}
 use Rattle.em_queues.specs.Best.{IsNoneReady, IsBest}
 use Rattle.em_parts.specs.QueueSteps.{queue_steps}
 use Rattle.em_desk.specs.declared.parts.Parts.{Parts}
-use Rattle.em_desk.specs.Choices.{is_allowed}
 use Rattle.em_desk.specs.Standing.{Stands}
 use Rattle.em_desk.proofs.Begun.{settled-queues}
-use Rattle.em_desk.proofs.Ready.{IsFree, best-choice, none-choice, none-left}
+use Rattle.em_desk.proofs.Ready.{IsFree, is_open, best-choice, none-choice, none-left}
 use Rattle.em_desk.proofs.parts.Parts.choice.Goals as goal
 
 pub returns-then-self : goal.returns-then-self
 returns-then-self c = none-left c.args.self.now c.args.core.0 c.requires.stands c.if-self.true
 
 -- what is best is a choice
-chosen : (p : Parts) (n : ℕ) (may : QueueSet) (o : Option QueueId) → Stands p → IsFree p n → p.started ≢ p.limits.receives → ((q : ℕ) → contains may q ≡ is_allowed p.declarations n q)
+chosen : (p : Parts) (n : ℕ) (may : QueueSet) (o : Option QueueId) → Stands p → IsFree p n → p.started ≢ p.limits.receives → ((q : ℕ) → contains may q ≡ is_open p n q)
     → MatchOption o (IsNoneReady p.declarations (lists p.declarations (queue_steps p.declarations p.history.past)) n may) (λ q. IsBest p.declarations (lists p.declarations (queue_steps p.declarations p.history.past)) n may q.0)
     → MatchOption o (has_choice p.declarations p.limits p.history.past n ≡ false) (λ q. is_choice p.declarations p.limits p.history.past n q.0 ≡ true)
 chosen p n may None s f less allowed none = none-choice p n may s allowed none
@@ -34,5 +33,6 @@ returns c =
     let cores = s.fixed.cores in
     let within : n < length p.allowed.items = omega (arith, core, cores) in
     let is : c.index.result.now ≡ get_or p.allowed.items n c.index.result.now = subst (λ (i : ℕ). c.index.result.now ≡ get_or p.allowed.items i c.index.result.now) c.from.ensures c.index.ensures in
-    chosen p n c.index.result.now c.best.result s (record { over = c.requires.over; closed = c.requires.closed }) c.if-self.false
-    (λ q. s.fixed.allowed n q c.index.result.now within is) (c.best.ensures p.declarations (queue_steps p.declarations p.history.past) (settled-queues p 0 s))
+    chosen p n c.without-may.result c.best.result s (record { over = c.requires.over; closed = c.requires.closed }) c.if-self.false
+    (λ q. c.without-may.ensures q ∙ (λ i. s.fixed.allowed n q c.index.result.now within is i && not (s.atomics.held q i)))
+    (c.best.ensures p.declarations (queue_steps p.declarations p.history.past) (settled-queues p 0 s))

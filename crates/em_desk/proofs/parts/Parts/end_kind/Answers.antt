@@ -1,10 +1,11 @@
-use Rattle.std.proofs.Common.{◌≡◌, ◌≢◌, ◌∙◌, ℕ, ◌<◌, ◌==◌, Bool, [], List, length, true, false, get_or, ap, sym, subst, arith, refl}
+use Rattle.std.proofs.Common.{◌≡◌, ◌≢◌, ◌∙◌, ℕ, ◌<◌, ◌==◌, Bool, not, ◌&&◌, [], List, length, true, false, get_or, ap, sym, subst, arith, refl}
 use Rattle.std.specs.List.{list_all}
 use Rattle.em_log.specs.Contexts.{boot_ended}
 use Rattle.em_log.specs.Eligible.{is_idle, is_wanted}
 use Rattle.em_log.specs.Places.{started}
 use Rattle.em_parts.specs.QueueSteps.{queue_steps}
 use Rattle.em_queues.specs.declared.set.QueueSet.{QueueSet}
+use Rattle.em_queues.specs.Sets.{contains}
 use Rattle.em_laws.proofs.Cores.{Compared, Same, Other, compared}
 use Rattle.em_desk.specs.declared.opening.Opening.{Opening}
 use Rattle.em_desk.specs.declared.parts.Parts.{Parts}
@@ -15,7 +16,7 @@ use Rattle.em_desk.proofs.Begun.{settled-queues}
 use Rattle.em_desk.proofs.Ended.{boot-over, idle-is, open-at, busy-is, free-at, wanted-is, unwanted-is, end-busy, end-quiet, end-limit, end-none}
 use Rattle.em_desk.proofs.Mapped.{none-long}
 use Rattle.em_desk.proofs.Numbers.{all-at}
-use Rattle.em_desk.proofs.Ready.{serve-ready, ready-runs, declared-queue}
+use Rattle.em_desk.proofs.Ready.{serve-by, ready-runs, declared-queue}
 use Rattle.em_desk.proofs.parts.Parts.end_kind.Goals as goal
 use Rattle.em_desk.proofs.parts.Parts.end_kind.Goals.{then-is_empty-via-then-is_empty, then-is_empty-via-else-is_empty+then-not-are_closed}
 
@@ -41,7 +42,7 @@ is-over p s some all =
     record { over = over; idle = idle-is p s over all }
 
 -- some core could be served
-wanted : (p : Parts) (r : Bool) (sets : List QueueSet) → Stands p → Over p → list_all is_closed p.contexts.items ≡ true → IsAnyReady r p.queues sets → r ≡ true → sets ≡ p.allowed.items
+wanted : (p : Parts) (r : Bool) (sets : List QueueSet) → Stands p → Over p → list_all is_closed p.contexts.items ≡ true → IsAnyReady r p.queues sets p.atomics.held → r ≡ true → sets ≡ p.allowed.items
     → is_wanted p.declarations p.history.past ≡ true
 wanted p false sets s v all any told same = absurd (cc told)
 wanted p true sets s v all any told same =
@@ -51,13 +52,14 @@ wanted p true sets s v all any told same =
     let there : can.core < length p.allowed.items = subst (λ (xs : List QueueSet). can.core < length xs) same inside in
     let lt : can.core < p.declarations.cores = omega (arith, cores, there) in
     let set : can.set ≡ get_or p.allowed.items can.core can.set = subst (λ (xs : List QueueSet). can.set ≡ get_or xs can.core can.set) same can.is in
-    let on = serve-ready p can.core can.queue can.set s (free-at p can.core s v.over all lt) (λ q. s.fixed.allowed can.core q can.set there set) can.ready in
+    let on = serve-by p can.core can.queue (contains can.set can.queue && not (contains p.atomics.held can.queue)) s (free-at p can.core s v.over all lt)
+    ((λ i. s.fixed.allowed can.core can.queue can.set there set i && not (s.atomics.held can.queue i))) can.ready in
     let r = ready-runs p.declarations p.history.past can.core can.queue on in
     wanted-is p can.core can.queue lt (declared-queue p.declarations p.history.past can.queue r) on
 
-unwanted : (p : Parts) (r : Bool) (sets : List QueueSet) → Stands p → IsAnyReady r p.queues sets → r ≡ false → sets ≡ p.allowed.items → is_wanted p.declarations p.history.past ≡ false
+unwanted : (p : Parts) (r : Bool) (sets : List QueueSet) → Stands p → IsAnyReady r p.queues sets p.atomics.held → r ≡ false → sets ≡ p.allowed.items → is_wanted p.declarations p.history.past ≡ false
 unwanted p true sets s any told same = absurd (cc told)
-unwanted p false sets s any told same = unwanted-is p s (subst (λ (xs : List QueueSet). IsAnyReady false p.queues xs) same any)
+unwanted p false sets s any told same = unwanted-is p s (subst (λ (xs : List QueueSet). IsAnyReady false p.queues xs p.atomics.held) same any)
 
 same-number : (a b : ℕ) → a ≡ b → (a == b) ≡ true
 same-number a b is = by_test (compared a b)

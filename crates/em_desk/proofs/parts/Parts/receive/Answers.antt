@@ -13,6 +13,7 @@ use Rattle.em_pool.specs.Steps.{Minted, Shifted}
 use Rattle.em_pool.specs.Stands as pools
 use Rattle.em_parts.specs.QueueSteps.{queue_steps}
 use Rattle.em_parts.specs.QueueAlike.{index_in}
+use Rattle.em_context_parts.specs.AtomicSteps.{atomic_steps}
 use Rattle.em_desk.specs.declared.opening.Opening.{Opening}
 use Rattle.em_desk.specs.declared.parts.Parts.{Parts}
 use Rattle.em_desk.specs.Histories.{HistoryState}
@@ -21,7 +22,7 @@ use Rattle.em_desk.proofs.Asked.{steps_of}
 use Rattle.em_desk.proofs.Begun.{pushed, settled-pools, settled-queues}
 use Rattle.em_desk.proofs.Minting.{can-mint}
 use Rattle.em_desk.proofs.Fronts.{front-listed}
-use Rattle.em_desk.proofs.Receives.{is-first, received, is-next, take-room, start-room, told-by, begun-now, block-now, again-at, after_take, take_of, start_by}
+use Rattle.em_desk.proofs.Receives.{is-first, received, is-next, take-room, start-room, can-grab, cells-told, told-by, begun-now, block-now, again-at, after_take, take_of, start_by}
 use Rattle.em_desk.proofs.Ready.{choice-less}
 use Rattle.em_desk.proofs.parts.Parts.receive.Goals as goal
 
@@ -45,6 +46,11 @@ start-event-requires-clause-spare c = let m = c.requires.mintings in omega (arit
 
 pub start-event-requires-clause-mintings : goal.start-event-requires-clause-mintings
 start-event-requires-clause-mintings c = can-mint c.args.self.now c.requires.stands
+
+pub grab-cells-requires : goal.grab-cells-requires
+grab-cells-requires c =
+    let p = c.args.self.now in
+    can-grab p c.args.core.0 c.args.queue c.requires.stands c.requires.core c.requires.choice (is-first p c.args.core.0 c.args.queue c.requires.stands c.requires.choice)
 
 pub push-requires-2-clause-room : goal.push-requires-2-clause-room
 push-requires-2-clause-room c =
@@ -75,13 +81,14 @@ returns-clause-stands c =
     let is = again-at p n q c.start-event.result s f c.start-event.ensures.event in
     let history = history-now p n q c.push.new.self c.push-2.new.self c.start-event.result c.copy.result (item_again p.history.past f.front.item) c.push.ensures c.push-2.ensures c.copy.ensures is in
     let opens : Opening = Opening.Body (Some c.object_of.result) in
-    let q' : Parts = record p { pools = c.start-event.new.pools; queues = c.start-event.new.queues; contexts = with_item p.contexts c.from.result opens; started = p.started + 1 } in
+    let q' : Parts = record p { pools = c.start-event.new.pools; queues = c.start-event.new.queues; atomics = c.grab-cells.new.self; contexts = with_item p.contexts c.from.result opens; started = p.started + 1 } in
     let first = (settled-queues p 0 s).waiting q.0 n ∙ front-listed p n q s f.front in
     let stands = subst (λ (e : Event). pools.Stands c.start-event.new.pools (Minted n e ∷ Shifted (index_of f.front.item.handle) (Place.Taken c.args.core) ∷ steps_of p)) is
     (c.start-event.ensures.pools (steps_of p) (index_of f.front.item.handle) (map index_in f.front.rest) (settled-pools p 0 s) first) in
     subst (λ (h : HistoryState). Stands (record q' { history = h })) (sym history)
     (received p q' n q f s c.requires.core c.requires.choice c.requires.history c.requires.mintings stands c.start-event.ensures.shapes c.start-event.ensures.spent
     (c.start-event.ensures.queues p.declarations (queue_steps p.declarations p.history.past) (settled-queues p 0 s)) c.start-event.ensures.same_shape
+    (c.grab-cells.ensures.stands p.declarations (atomic_steps p.declarations p.history.past) s.atomics)
     ((λ i. slice_set p.contexts.items (c.from.ensures i) (Opening.Body (Some (c.object_of.ensures i))))) refl (choice-less p n q.0 s c.requires.choice))
 
 pub returns-clause-past : goal.returns-clause-past
@@ -107,13 +114,16 @@ returns-clause-told c =
     let is = again-at p n q c.start-event.result s f c.start-event.ensures.event in
     let history = history-now p n q c.push.new.self c.push-2.new.self c.start-event.result c.copy.result e c.push.ensures c.push-2.ensures c.copy.ensures is in
     let opens : Opening = Opening.Body (Some c.object_of.result) in
-    let q' : Parts = record p { pools = c.start-event.new.pools; queues = c.start-event.new.queues; contexts = with_item p.contexts c.from.result opens; started = p.started + 1 } in
+    let q' : Parts = record p { pools = c.start-event.new.pools; queues = c.start-event.new.queues; atomics = c.grab-cells.new.self; contexts = with_item p.contexts c.from.result opens; started = p.started + 1 } in
     let first = (settled-queues p 0 s).waiting q.0 n ∙ front-listed p n q s f.front in
     let stands = subst (λ (e : Event). pools.Stands c.start-event.new.pools (Minted n e ∷ Shifted (index_of f.front.item.handle) (Place.Taken c.args.core) ∷ steps_of p)) is
     (c.start-event.ensures.pools (steps_of p) (index_of f.front.item.handle) (map index_in f.front.rest) (settled-pools p 0 s) first) in
     let now = received p q' n q f s c.requires.core c.requires.choice c.requires.history c.requires.mintings stands c.start-event.ensures.shapes c.start-event.ensures.spent
     (c.start-event.ensures.queues p.declarations (queue_steps p.declarations p.history.past) (settled-queues p 0 s)) c.start-event.ensures.same_shape
+    (c.grab-cells.ensures.stands p.declarations (atomic_steps p.declarations p.history.past) s.atomics)
     ((λ i. slice_set p.contexts.items (c.from.ensures i) (Opening.Body (Some (c.object_of.ensures i))))) refl (choice-less p n q.0 s c.requires.choice) in
-    let told = told-by (record q' { history = record p.history { past = after_take p.history.past n q e } }) n q e now (begun-now p.history.past n q e) in
-    subst (λ (v : Event). context_told p.declarations c.push-2.new.self.past n ≡ Some (Context.Receive (record { queue = q; eo = object_id (object_of p.declarations q.0); event = v; stamp = None; ticket = None; cells = None; rest = [] }))) (sym is)
+    let given = c.grab-cells.ensures.cells p.declarations (atomic_steps p.declarations p.history.past) s.atomics in
+    let comes = cells-told p n q e s c.requires.choice f now.all ∙ sym given in
+    let told = told-by (record q' { history = record p.history { past = after_take p.history.past n q e } }) n q e c.grab-cells.result now (begun-now p.history.past n q e) comes in
+    subst (λ (v : Event). context_told p.declarations c.push-2.new.self.past n ≡ Some (Context.Receive (record { queue = q; eo = object_id (object_of p.declarations q.0); event = v; stamp = None; ticket = None; cells = c.grab-cells.result; rest = [] }))) (sym is)
     (ap (λ (h : HistoryState). context_told p.declarations h.past n) history ∙ told)
