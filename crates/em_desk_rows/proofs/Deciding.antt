@@ -1,6 +1,6 @@
--- Runs of graphs of one queue at most, decided by computing.
-use Rattle.std.proofs.Common.{◌≡◌, ℕ, zero, suc, ◌<◌, ◌≤◌, Bool, true, false, not, ◌&&◌, nat_lt, nat_le, List, [], ◌∷◌, length, Option, Some, None, is_none, refl, ap, subst, sym, ◌∙◌, arith, if◌then◌else◌, slice_get}
-use Rattle.std.specs.List.{list_any}
+-- Runs in which each take has one choice at most, decided by computing.
+use Rattle.std.proofs.Common.{◌≡◌, ℕ, zero, suc, ◌+◌, ◌<◌, ◌≤◌, ◌==◌, ◌||◌, Bool, true, false, not, ◌&&◌, nat_lt, nat_le, List, [], ◌∷◌, length, Option, Some, None, is_none, refl, ap, subst, sym, ◌∙◌, arith, if◌then◌else◌, slice_get, unwrap_or}
+use Rattle.std.specs.List.{list_all, list_any, find}
 use Rattle.std.specs.Option.{option_map_or}
 use Rattle.std.proofs.lemmas.Bool.{leb-true, ltb-true, false≢true}
 use Rattle.em_log.specs.declared.ask.Answer.{Answer}
@@ -12,18 +12,19 @@ use Rattle.em_log.specs.declared.entry.What.{What}
 use Rattle.em_log.specs.declared.ids.Kind.{Kind}
 use Rattle.em_log.specs.declared.ids.Limits.{Limits}
 use Rattle.em_log.specs.History.{Past, entry_by}
-use Rattle.em_log.specs.Declarations.{below, kind_of, is_served}
+use Rattle.em_log.specs.Declarations.{below, numbers_from, is_served}
 use Rattle.em_log.specs.Contexts.{context, boot_ended}
 use Rattle.em_log.specs.Operations.{step}
-use Rattle.em_log.specs.States.{flag}
 use Rattle.em_log.specs.Arrivals.{Item}
-use Rattle.em_log.specs.Places.{waiting, taken, promised}
+use Rattle.em_log.specs.Places.{taken}
 use Rattle.em_log.specs.Atomic.{is_empty}
-use Rattle.em_log.specs.Eligible.{is_between, runs, is_in_group, is_unheld, ready, eligible, is_best, is_choice, take_size, ticket_drawn}
+use Rattle.em_log.specs.Eligible.{eligible, is_best, is_choice, take_size, ticket_drawn}
 use Rattle.em_log.specs.Leads.{lead}
 use Rattle.em_log.specs.Lawful.{may_ask}
 use Rattle.em_log.specs.Allowance.{cost_of_ask, left}
 use Rattle.em_log.specs.Answers.{Takes, Halted, Boots, Early, Enters, Acks, Receives, Rests, block, has_choice, is_first}
+use Rattle.em_moments.proofs.Choices.{choice-ready}
+use Rattle.em_laws.proofs.Cores.{Compared, Same, Other, compared, eqb-eq}
 use Rattle.em_desk.specs.State.{DeskState}
 use Rattle.em_desk.specs.Served.{served}
 use Rattle.em_desk_rows.specs.declared.moves.Move.{Move}
@@ -35,44 +36,56 @@ both-true : (a b : Bool) → (a && b) ≡ true → (a ≡ true) × (b ≡ true)
 both-true true b is = (refl, is)
 both-true false b is = absurd (false≢true is)
 
-third-true : (a b s d e g h i : Bool) → (a && b && s && d && e && g && h && i) ≡ true → s ≡ true
-third-true true true true d e g h i is = refl
-third-true true true false d e g h i is = absurd (false≢true is)
-third-true true false s d e g h i is = absurd (false≢true is)
-third-true false b s d e g h i is = absurd (false≢true is)
+-- a queue that a core may take from is declared
+served-declared : (ds : List QueueShape) (q : ℕ) → is_served (option_map_or (λ (d : QueueShape). d.kind) (slice_get ds q) Kind.Unscheduled) ≡ true → q < length ds
+served-declared [] q is = absurd (false≢true is)
+served-declared (d ∷ ds) zero is = omega arith
+served-declared (d ∷ ds) (suc q) is = let lt = served-declared ds q is in omega (arith, lt)
 
--- of at most one queue, only the first is served
-first-served : (ds : List QueueShape) (q : ℕ) → length ds ≤ 1
-    → is_served (option_map_or (λ (d : QueueShape). d.kind) (slice_get ds q) Kind.Unscheduled) ≡ true → (q ≡ 0) × (0 < length ds)
-first-served [] q few is = absurd (false≢true is)
-first-served (d ∷ ds) zero few is = (refl, omega arith)
-first-served (d ∷ []) (suc q) few is = absurd (false≢true is)
-first-served (d ∷ e ∷ ds) (suc q) few is = absurd (omega arith)
+choice-declared : (k : Declarations) (l : Limits) (past : Past) (c q : ℕ) → is_choice k l past c q ≡ true → q < length k.queues
+choice-declared k l past c q is = served-declared k.queues q (choice-ready k l past c q is).served
 
-pub eligible-first : (k : Declarations) (l : Limits) (past : Past) (c q : ℕ) → length k.queues ≤ 1 → eligible k l past c q ≡ true
-    → (q ≡ 0) × (0 < length k.queues)
-eligible-first k l past c q few is =
-    let ready_now : ready k past c q ≡ true = (both-true (ready k past c q) (nat_lt (promised k past) l.receives) is).0 in
-    first-served k.queues q few
-    (third-true (is_between k past c) (is_none (step k past c)) (is_served (kind_of k q)) (runs k past q) (flag past q)
-    (not (is_empty (waiting k past q c))) (is_in_group k past c q) (is_unheld k past q) ready_now)
+-- the least queue that the core may take from, and whether it is the only one
 
-any-first : (f : ℕ → Bool) (n : ℕ) → 0 < n → f 0 ≡ true → list_any f (below n) ≡ true
-any-first f zero some is = absurd (omega arith)
-any-first f (suc n) some is = rw is refl
+abbrev pub chosen : Declarations → Limits → Past → ℕ → ℕ
+chosen k l past c = unwrap_or (find (is_choice k l past c) (below (length k.queues))) 0
 
--- a choice is that of the first queue, and there is one
-pub choice-first : (k : Declarations) (l : Limits) (past : Past) (c q : ℕ) → length k.queues ≤ 1 → is_choice k l past c q ≡ true
-    → (q ≡ 0) × (has_choice k l past c ≡ true)
-choice-first k l past c q few is =
+abbrev pub is_single : Declarations → Limits → Past → ℕ → Bool
+is_single k l past c = list_all (λ q. not (is_choice k l past c q) || (q == chosen k l past c)) (below (length k.queues))
+
+all-from : (f : ℕ → Bool) (a n i : ℕ) → list_all f (numbers_from a n) ≡ true → a ≤ i → i < a + n → f i ≡ true
+all-from f a zero i is low high = absurd (omega arith)
+all-from f a (suc n) i is low high = by_test (compared a i) (all-from f (suc a) n i (both-true (f a) (list_all f (numbers_from (suc a) n)) is).1)
+  where
+    by_test : Compared a i → (suc a ≤ i → i < suc a + n → f i ≡ true) → f i ≡ true
+    by_test (Same t e) later = subst (λ (x : ℕ). f x ≡ true) e (both-true (f a) (list_all f (numbers_from (suc a) n)) is).0
+    by_test (Other f ne) later = later (omega (arith, low, ne)) (omega (arith, high))
+
+any-from : (f : ℕ → Bool) (a n i : ℕ) → a ≤ i → i < a + n → f i ≡ true → list_any f (numbers_from a n) ≡ true
+any-from f a zero i low high is = absurd (omega arith)
+any-from f a (suc n) i low high is = by_test (compared a i) (f a) refl (any-from f (suc a) n i)
+  where
+    by_test : Compared a i → (b : Bool) → f a ≡ b → (suc a ≤ i → i < suc a + n → f i ≡ true → list_any f (numbers_from (suc a) n) ≡ true)
+        → (f a || list_any f (numbers_from (suc a) n)) ≡ true
+    by_test at true t later = rw t refl
+    by_test (Same e same) false t later = let on : f a ≡ true = ap f same ∙ is in absurd (false≢true (sym t ∙ on))
+    by_test (Other e ne) false t later = rw t (later (omega (arith, low, ne)) (omega (arith, high)) is)
+
+-- where there is only one, a choice is it
+pub choice-single : (k : Declarations) (l : Limits) (past : Past) (c q : ℕ) → is_single k l past c ≡ true → is_choice k l past c q ≡ true
+    → (q ≡ chosen k l past c) × (has_choice k l past c ≡ true)
+choice-single k l past c q single is =
+    let declared = choice-declared k l past c q is in
+    let test = all-from (λ q. not (is_choice k l past c q) || (q == chosen k l past c)) 0 (length k.queues) q single (omega arith) (omega (arith, declared)) in
+    let same : (q == chosen k l past c) ≡ true = sym (ap (λ (b : Bool). not b || (q == chosen k l past c)) is) ∙ test in
     let can : eligible k l past c q ≡ true = (both-true (eligible k l past c q) (is_best k l past c q) is).0 in
-    let first = eligible-first k l past c q few can in
-    (first.0, any-first (eligible k l past c) (length k.queues) first.1 (subst (λ r. eligible k l past c r ≡ true) first.0 can))
+    (eqb-eq q (chosen k l past c) same, any-from (eligible k l past c) 0 (length k.queues) q (omega arith) (omega (arith, declared)) can)
 
 -- takes
 
 abbrev pub received : Declarations → Limits → Past → ℕ → Past
-received k l past c = block k past (entry_by c (What.Take (record { 0 = 0 }) (take_size k l past c 0) (ticket_drawn k past 0)))
+received k l past c =
+    block k past (entry_by c (What.Take (record { 0 = chosen k l past c }) (take_size k l past c (chosen k l past c)) (ticket_drawn k past (chosen k l past c))))
 
 -- the history after a take of a core that owes no step
 abbrev pub after_take : Declarations → Limits → Bool → Past → ℕ → Past
@@ -87,20 +100,20 @@ first-later : (c : ℕ) (past : Past) → boot_ended past ≡ true → is_first 
 first-later c [] over = absurd (false≢true over)
 first-later c (e ∷ past) over = refl
 
-pub take-is : (k : Declarations) (l : Limits) (halted : Bool) (past : Past) (c : ℕ) (answer : Answer) (now : Past) → length k.queues ≤ 1
+pub take-is : (k : Declarations) (l : Limits) (halted : Bool) (past : Past) (c : ℕ) (answer : Answer) (now : Past) → is_single k l past c ≡ true
     → step k past c ≡ None → Takes k l halted past c answer now → now ≡ after_take k l halted past c
-take-is k l halted past c answer now few none (Halted h a n) = rw h n
-take-is k l halted past c answer now few none (Boots h f a n) = rw (h, f) n
-take-is k l halted past c answer now few none (Early h f o a n) = rw (h, f, o) n
-take-is k l halted past c answer now few none (Enters b x h o s n t a) = absurd cc
-take-is k l halted past c answer now few none (Acks op h o s n a) = absurd cc
-take-is k l halted past c answer now few none (Receives q x h o s f n t a) =
-    let first = choice-first k l past c q few f in
+take-is k l halted past c answer now single none (Halted h a n) = rw h n
+take-is k l halted past c answer now single none (Boots h f a n) = rw (h, f) n
+take-is k l halted past c answer now single none (Early h f o a n) = rw (h, f, o) n
+take-is k l halted past c answer now single none (Enters b x h o s n t a) = absurd cc
+take-is k l halted past c answer now single none (Acks op h o s n a) = absurd cc
+take-is k l halted past c answer now single none (Receives q x h o s f n t a) =
+    let first = choice-single k l past c q single f in
     let early = first-later c past o in
     let chosen = first.1 in
     rw (h, early, o, chosen)
     (n ∙ ap (λ r. block k past (entry_by c (What.Take (record { 0 = r }) (take_size k l past c r) (ticket_drawn k past r)))) first.0)
-take-is k l halted past c answer now few none (Rests h o s f r n) =
+take-is k l halted past c answer now single none (Rests h o s f r n) =
     let early = first-later c past o in
     rw (h, early, o, f) n
 
@@ -109,7 +122,7 @@ take-is k l halted past c answer now few none (Rests h o s f r n) =
 abbrev pub may_take : DeskState → ℕ → Bool
 may_take d c =
     nat_lt c d.declarations.cores && is_none (context d.past c) && is_empty (taken d.declarations d.past c)
-    && is_none (step d.declarations d.past c)
+    && is_none (step d.declarations d.past c) && is_single d.declarations d.limits d.past c
 
 abbrev pub may_do : DeskState → ℕ → Ask → Bool
 may_do d c ask =
@@ -137,18 +150,24 @@ empty-is : (xs : List Item) → is_empty xs ≡ true → xs ≡ []
 empty-is [] is = refl
 empty-is (x ∷ xs) is = absurd (false≢true is)
 
-may-take : (d : DeskState) (c : ℕ) → may_take d c ≡ true → MayTake d c × (step d.declarations d.past c ≡ None)
+may-take : (d : DeskState) (c : ℕ) → may_take d c ≡ true → MayTake d c × ((step d.declarations d.past c ≡ None) × (is_single d.declarations d.limits d.past c ≡ true))
 may-take d c is =
+    let z =
+    both-true
+    (nat_lt c d.declarations.cores && is_none (context d.past c) && is_empty (taken d.declarations d.past c) && is_none (step d.declarations d.past c))
+    (is_single d.declarations d.limits d.past c)
+    is
+    in
     let a =
     both-true
     (nat_lt c d.declarations.cores && is_none (context d.past c) && is_empty (taken d.declarations d.past c))
     (is_none (step d.declarations d.past c))
-    is
+    z.0
     in
     let b = both-true (nat_lt c d.declarations.cores && is_none (context d.past c)) (is_empty (taken d.declarations d.past c)) a.0 in
     let e = both-true (nat_lt c d.declarations.cores) (is_none (context d.past c)) b.0 in (
       record { core = ltb-true c d.declarations.cores e.0; closed = none-is (context d.past c) e.1; untaken = empty-is (taken d.declarations d.past c) b.1 },
-      none-is (step d.declarations d.past c) a.1,
+      (none-is (step d.declarations d.past c) a.1, z.1),
     )
 
 may-do : (d : DeskState) (c : ℕ) (ask : Ask) → may_do d c ask ≡ true → MayAsk d c ask
@@ -173,20 +192,20 @@ may-do d c ask is =
       served = a.1;
     }
 
-moves-by : (d : DeskState) (c : ℕ) (o : Option Ask) (more : DeskState → Type 0) → length d.declarations.queues ≤ 1
+moves-by : (d : DeskState) (c : ℕ) (o : Option Ask) (more : DeskState → Type 0)
     → may_move d c o ≡ true → more (with_past d (moved d c o)) → Moves d c o more
-moves-by d c None more few is more_then =
+moves-by d c None more is more_then =
     let may = may-take d c is in (
       may.0,
       λ (answer : Answer) (now : Past) (takes : Takes d.declarations d.limits d.halted d.past c answer now).
-          subst (λ past. more (with_past d past)) (sym (take-is d.declarations d.limits d.halted d.past c answer now few may.1 takes)) more_then,
+          subst (λ past. more (with_past d past)) (sym (take-is d.declarations d.limits d.halted d.past c answer now may.1.1 may.1.0 takes)) more_then,
     )
-moves-by d c (Some ask) more few is more_then = (may-do d c ask is, more_then)
+moves-by d c (Some ask) more is more_then = (may-do d c ask is, more_then)
 
 -- a decided run of moves drives
-pub drives-by : (d : DeskState) (ms : List (ℕ × Move)) → length d.declarations.queues ≤ 1 → passes d ms ≡ true → Drives d ms
-drives-by d [] few is = tt
-drives-by d (m ∷ ms) few is =
+pub drives-by : (d : DeskState) (ms : List (ℕ × Move)) → passes d ms ≡ true → Drives d ms
+drives-by d [] is = tt
+drives-by d (m ∷ ms) is =
     let b = both-true (may_move d m.0 (ask_of m.1)) (passes (with_past d (moved d m.0 (ask_of m.1))) ms) is in
-    moves-by d m.0 (ask_of m.1) (λ now. Drives now ms) few b.0
-    (drives-by (with_past d (moved d m.0 (ask_of m.1))) ms few b.1)
+    moves-by d m.0 (ask_of m.1) (λ now. Drives now ms) b.0
+    (drives-by (with_past d (moved d m.0 (ask_of m.1))) ms b.1)

@@ -3,6 +3,7 @@ use Rattle.std.specs.Prelude.{ℕ, ◌≡◌, ◌≤◌, ◌<◌, false, List, [
 use Rattle.em_log.specs.declared.ask.Answer.{Answer}
 use Rattle.em_log.specs.declared.ask.Ask.{Ask}
 use Rattle.em_log.specs.declared.declarations.Declarations.{Declarations}
+use Rattle.em_log.specs.declared.ids.Cells.{Cells}
 use Rattle.em_log.specs.History.{Past, entry_by}
 use Rattle.em_log.specs.Contexts.{context}
 use Rattle.em_log.specs.Places.{taken}
@@ -20,16 +21,25 @@ fresh k n = record { declarations = k; limits = record { receives = n; burst = 1
 
 -- moves
 
+-- eight cells, all but the first of them 0
+abbrev pub first_cell : ℕ → Cells
+first_cell v = record { 0 = v ∷ 0 ∷ 0 ∷ 0 ∷ 0 ∷ 0 ∷ 0 ∷ 0 ∷ [] }
+
 -- the ask of a move: none where it takes
 abbrev pub ask_of : Move → Option Ask
 ask_of Move.Take = None
 ask_of (Move.Alloc kind) = Some (Ask.Alloc (record { 0 = 0 }) kind [])
 ask_of (Move.Free w) = Some (Ask.Free w)
 ask_of (Move.Send w) = Some (Ask.Send w (record { 0 = 0 }) None)
+ask_of (Move.SendTo w q) = Some (Ask.Send w (record { 0 = q }) None)
 ask_of (Move.Keep w) = Some (Ask.Keep w)
 ask_of Move.Claim = Some Ask.Claim
+ask_of (Move.Dequeue q) = Some (Ask.Dequeue (record { 0 = q }))
+ask_of Move.Cell = Some Ask.Cell
 ask_of (Move.Say v) = Some (Ask.Say v)
+ask_of (Move.EndAtomic v) = Some (Ask.EndAtomic (first_cell v))
 ask_of Move.End = Some (Ask.End None)
+ask_of (Move.EndWith v) = Some (Ask.End (Some (first_cell v)))
 
 -- core c of this run may take
 pub record MayTake (d : DeskState) (c : ℕ) : Type 0 where

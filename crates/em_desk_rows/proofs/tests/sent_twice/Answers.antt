@@ -1,4 +1,4 @@
-use Rattle.std.proofs.Common.{refl, sym, subst, arith}
+use Rattle.std.proofs.Common.{refl, sym, subst}
 use Rattle.em_desk_rows.specs.declared.tests.TheConstants.{SENT_TWICE}
 use Rattle.em_desk_rows.specs.Graphs.{one_queue}
 use Rattle.em_desk_rows.specs.Moves.{fresh, Drives}
@@ -8,4 +8,4 @@ use Rattle.em_desk_rows.proofs.tests.sent_twice.Goals as goal
 pub run-requires-clause-drives : goal.run-requires-clause-drives
 run-requires-clause-drives c =
     subst (λ k. Drives (fresh k 10) SENT_TWICE) (sym c.in_ok-config.ensures)
-    (drives-by (fresh (one_queue 1 (record { events = 4; words = 1 })) 10) SENT_TWICE (omega arith) refl)
+    (drives-by (fresh (one_queue 1 (record { events = 4; words = 1 })) 10) SENT_TWICE refl)

@@ -1,0 +1,11 @@
+use Rattle.std.proofs.Common.{true, [], ◌∷◌, refl, sym, subst}
+use Rattle.em_desk_rows.specs.declared.tests.TheConstants.{TWO_PRIORITIES, HIGH_IN_GROUP, LOW_IN_GROUP}
+use Rattle.em_desk_rows.specs.Graphs.{graph_of, all_cores_groups}
+use Rattle.em_desk_rows.specs.Moves.{fresh, Drives}
+use Rattle.em_desk_rows.proofs.Deciding.{drives-by}
+use Rattle.em_desk_rows.proofs.tests.two_priorities.Goals as goal
+
+pub run-requires-clause-drives : goal.run-requires-clause-drives
+run-requires-clause-drives c =
+    subst (λ k. Drives (fresh k 10) TWO_PRIORITIES) (sym c.in_ok-config.ensures)
+    (drives-by (fresh (graph_of 1 (record { events = 2; words = 0 }) (true ∷ []) (all_cores_groups 1) (LOW_IN_GROUP ∷ HIGH_IN_GROUP ∷ [])) 10) TWO_PRIORITIES refl)
