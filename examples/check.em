@@ -1,4 +1,4 @@
-# An atomic group, an event group and a start: none of them runs yet.
+# An event group, a send with it, and the start of an object: none of them runs yet.
 cores   2
 
 pool p 4 1

@@ -1,5 +1,5 @@
 -- The queues of a graph that runs today are open as they are declared, so that the desk serves sends to them.
-use Rattle.std.proofs.Common.{◌≡◌, ◌⊎◌, inl, inr, ℕ, ◌<◌, ◌≤◌, ◌&&◌, Bool, true, false, length, Option, Some, None, is_none, is_some, refl, ap, ◌∙◌, arith, IsTrue, nat_lt, get_or, slice_get}
+use Rattle.std.proofs.Common.{◌≡◌, ◌⊎◌, inl, inr, ℕ, ◌<◌, ◌≤◌, ◌&&◌, ◌||◌, Bool, true, false, length, Option, Some, None, is_none, is_some, refl, ap, ◌∙◌, arith, IsTrue, nat_lt, get_or, slice_get}
 use Rattle.std.proofs.lemmas.Bool.{and_parts, ltb-true}
 use Rattle.std.proofs.lemmas.Option.{slice_get-map, slice_get_cases}
 use Rattle.std.specs.Option.{option_map, option_map_or}
@@ -13,7 +13,7 @@ use Rattle.em_log.specs.declared.ids.EoId.{EoId}
 use Rattle.em_log.specs.declared.ids.GroupId.{GroupId}
 use Rattle.em_log.specs.declared.ids.Kind.{Kind}
 use Rattle.em_log.specs.Declarations.{declarations_of, eo_shape, queue_shape, is_served}
-use Rattle.em_log.specs.WellFormed.{IsWellFormed, is_queue_decl, is_queue_of, has_eo, has_group}
+use Rattle.em_log.specs.WellFormed.{IsWellFormed, is_queue_decl, is_queue_of, has_eo, has_group, has_agroup}
 use Rattle.em_desk.specs.Served.{serves_queue}
 use Rattle.em_drive.specs.Runnable.{is_runnable, is_runnable_object, is_runnable_queue, is_runnable_kind}
 use Rattle.em_drive.proofs.RunnableParts.{all-get, runnable-parts, object-parts}
@@ -27,8 +27,8 @@ shape k o p n a = record { kind = k; eo = o; priority = p; group = n; agroup = a
 serves-owned : (k : Declarations) (q : ℕ) (kind : Kind) (x : EoId) (p : Option Priority) (n : Option GroupId) (a : Option ℕ)
     → slice_get k.queues q ≡ Some (shape kind (Some x) p n a) → slice_get k.running x.0 ≡ Some true → is_runnable_kind kind ≡ true
     → serves_queue k q ≡ true
-serves-owned k q Kind.Atomic x p n a at runs h = absurd cc
 serves-owned k q Kind.Ordered x p n a at runs h = absurd cc
+serves-owned k q Kind.Atomic x p n a at runs h = rw (at, runs) refl
 serves-owned k q Kind.Parallel x p n a at runs h = rw (at, runs) refl
 serves-owned k q Kind.Local x p n a at runs h = rw (at, runs) refl
 serves-owned k q Kind.Unscheduled x p n a at runs h = rw at refl
@@ -49,6 +49,9 @@ serves-none k q at = rw at refl
 -- a queue that cores take from has one
 owned : (g : Config) (d : QueueDecl) (kind : Kind) → is_runnable_kind kind ≡ true → is_served kind ≡ true → is_queue_of g d kind ≡ true
     → has_eo g d ≡ true
+owned g d Kind.Atomic h taken fits =
+    let a = and_parts (has_eo g d && is_some d.priority) ((has_group g d && is_none d.agroup) || (has_agroup g d && is_none d.group)) fits in
+    (and_parts (has_eo g d) (is_some d.priority) a.0).0
 owned g d Kind.Parallel h taken fits =
     let a = and_parts (has_eo g d && is_some d.priority && has_group g d) (is_none d.agroup) fits in
     let b = and_parts (has_eo g d && is_some d.priority) (has_group g d) a.0 in

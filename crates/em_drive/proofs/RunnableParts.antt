@@ -36,7 +36,7 @@ none-of (Some x) h = absurd cc
 
 pub runnable-parts : (g : Config) → IsTrue (is_runnable g) → Parts g
 runnable-parts g h =
-    let no_groups : Bool = is_empty g.agroups && is_empty g.egroups in
+    let no_groups : Bool = is_empty g.egroups in
     let objects : Bool = list_all is_runnable_object g.eos in
     let queues : Bool = list_all is_runnable_queue g.queues in
     let a = and_parts (no_groups && objects && queues && is_runnable_body g.boot) (is_none g.error) h in

@@ -1,5 +1,5 @@
--- The graphs that run today: of any cores and queue groups, with pools, objects that run and have a receive body alone, and
--- queues that are neither atomic nor ordered.
+-- The graphs that run today: of any cores, queue groups and atomic groups, with pools, objects that run and have a receive body
+-- alone, and queues of every kind but ordered.
 use Rattle.std.specs.Prelude.{Bool, true, false, not, ◌&&◌, ◌||◌, List, [], ◌∷◌, is_none}
 use Rattle.std.specs.List.{list_all}
 use Rattle.em_log.specs.declared.body.Stmt.{Stmt}
@@ -20,6 +20,7 @@ is_runnable_statement (Stmt.Keep e) = true
 is_runnable_statement (Stmt.Send e q) = true
 is_runnable_statement (Stmt.Claim v) = true
 is_runnable_statement (Stmt.Dequeue v q) = true
+is_runnable_statement Stmt.EndAtomic = true
 is_runnable_statement s = false
 
 abbrev pub is_runnable_body : List Stmt → Bool
@@ -32,7 +33,6 @@ is_runnable_object d =
     && is_none d.error
 
 abbrev pub is_runnable_kind : Kind → Bool
-is_runnable_kind Kind.Atomic = false
 is_runnable_kind Kind.Ordered = false
 is_runnable_kind _ = true
 
@@ -45,5 +45,5 @@ is_empty (x ∷ xs) = false
 
 abbrev pub is_runnable : Config → Bool
 is_runnable g =
-    is_empty g.agroups && is_empty g.egroups && list_all is_runnable_object g.eos && list_all is_runnable_queue g.queues
-    && is_runnable_body g.boot && is_none g.error
+    is_empty g.egroups && list_all is_runnable_object g.eos && list_all is_runnable_queue g.queues && is_runnable_body g.boot
+    && is_none g.error

@@ -28,7 +28,8 @@ fn is_runnable_statement(statement: &Stmt) -> bool
         | Stmt::Keep(_)
         | Stmt::Send { .. }
         | Stmt::Claim { .. }
-        | Stmt::Dequeue { .. } => true,
+        | Stmt::Dequeue { .. }
+        | Stmt::EndAtomic => true,
         _ => false,
     }
 }
@@ -58,7 +59,7 @@ fn is_runnable_object(object: &EoDecl) -> bool
 fn is_runnable_queue(queue: &QueueDecl) -> bool
     ensures { result ≡ runnable.is_runnable_queue queue.now }
 {
-    !matches!(queue.kind, Kind::Atomic | Kind::Ordered)
+    queue.kind != Kind::Ordered
 }
 
 fn are_runnable_objects(objects: &[EoDecl]) -> bool
@@ -76,8 +77,7 @@ fn are_runnable_queues(queues: &[QueueDecl]) -> bool
 fn is_runnable_graph(config: &Config) -> bool
     ensures { result ≡ runnable.is_runnable config.now }
 {
-    config.agroups.as_slice().is_empty()
-        && config.egroups.as_slice().is_empty()
+    config.egroups.as_slice().is_empty()
         && are_runnable_objects(config.eos.as_slice())
         && are_runnable_queues(config.queues.as_slice())
         && is_runnable_body(config.boot.as_slice())

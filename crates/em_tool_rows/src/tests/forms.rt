@@ -8,7 +8,7 @@ use std::test::*;
 /// canonical spelling.
 type Form = (&'static str, &'static str, &'static str, &'static str);
 
-const DECLARATIONS_RUN: [Form; 19] = [
+const DECLARATIONS_RUN: [Form; 24] = [
     ("cores 1", "", "", ""),
     ("cores 2", "", "", ""),
     ("cores 8", "", "", ""),
@@ -31,14 +31,8 @@ const DECLARATIONS_RUN: [Form; 19] = [
     ("cores 1", "queue u local x normal\n", "", ""),
     ("cores 1", "queue u local x high\n", "", ""),
     ("cores 1", "queue u local x highest\n", "", ""),
-    ("cores 1", "queue u unscheduled\n", "", ""),
-    ("cores 1", "queue u output\n", "", ""),
-];
-
-const DECLARATIONS_NOT_RUN_TODAY: [Form; 6] = [
-    ("cores 1", "eo y\n", "", ""),
     ("cores 1", "queue u atomic x normal all\n", "", ""),
-    ("cores 1", "queue u ordered x normal all\n", "", ""),
+    ("cores 2", "group g 2\nqueue u atomic x highest g\n", "", ""),
     ("cores 1", "agroup a all\n", "", ""),
     (
         "cores 1",
@@ -46,6 +40,19 @@ const DECLARATIONS_NOT_RUN_TODAY: [Form; 6] = [
         "",
         "",
     ),
+    (
+        "cores 2",
+        "group g 1\nagroup a g\nqueue u atomic x low in a\n",
+        "",
+        "",
+    ),
+    ("cores 1", "queue u unscheduled\n", "", ""),
+    ("cores 1", "queue u output\n", "", ""),
+];
+
+const DECLARATIONS_NOT_RUN_TODAY: [Form; 3] = [
+    ("cores 1", "eo y\n", "", ""),
+    ("cores 1", "queue u ordered x normal all\n", "", ""),
     ("cores 1", "egroup e\n", "", ""),
 ];
 
@@ -60,11 +67,10 @@ const BODIES_NOT_RUN_TODAY: [Form; 8] = [
     ("cores 1", "", "", "body x receive\nenable q\nend\n"),
 ];
 
-const STATEMENTS_NOT_RUN_TODAY: [Form; 17] = [
+const STATEMENTS_NOT_RUN_TODAY: [Form; 16] = [
     ("cores 1", "egroup e\n", "alloc v0 p 1\nsendg v0 q e\n", ""),
     ("cores 1", "", "enable q\n", ""),
     ("cores 1", "", "disable q\n", ""),
-    ("cores 1", "", "endatomic\n", ""),
     ("cores 1", "", "endordered\n", ""),
     ("cores 1", "", "endgroup\n", ""),
     ("cores 1", "egroup e\n", "apply e 1\n", ""),

@@ -1,5 +1,5 @@
 //! Runs of several cores, and of queues of every kind that runs.
-use super::{Row, judge_rows};
+use super::{Row, judge, judge_rows};
 use std::test::*;
 
 /// A handle is freed on a core that does not hold it.
@@ -18,7 +18,7 @@ const CELL_AND_DEQUEUE_REFUSED: Row = (
     "trace 1\n0 c0 enter boot\n1 c0 fault cell 7 0 global\n2 c0 fault dequeue 6 1 global\n3 c0 say 0\n4 c0 end lost 0\nquiet\n",
 );
 
-const RUNS: [Row; 5] = [
+const RUNS: [Row; 9] = [
     HELD_BY_ANOTHER_CORE,
     CELL_AND_DEQUEUE_REFUSED,
     (
@@ -39,10 +39,46 @@ const RUNS: [Row; 5] = [
         0,
         "trace 1\n0 c0 enter boot\n1 c0 alloc p1 65538 kind 1 words 16 1 2 3 4 5 6 7 8 9 10 11 12 13 14 15 16\n2 c0 alloc p1 65539 kind 1 words 0\n3 c0 alloc p1 65540 kind 2 words 1 18446744073709551615\n4 c0 fault alloc 15 3 global\n5 c0 free 65539\n6 c0 alloc p1 131075 kind 3 words 1 6\n7 c0 send 131075 q1\n8 c0 out q1 kind 3 words 1 6\n9 c0 fault alloc 16 0 global\n10 c0 alloc p0 65536 kind 1 words 0\n11 c0 fault alloc 16 1 global\n12 c0 alloc p2 65541 kind 2 words 1 1\n13 c0 fault alloc 15 1 global\n14 c0 alloc p0 65537 kind 2 words 0\n15 c0 fault alloc 15 2 global\n16 c0 free 65536\n17 c0 alloc p0 131072 kind 3 words 0\n18 c0 alloc p1 196611 kind 5 words 0\n19 c0 send 196611 q0\n20 c0 send 65538 q0\n21 c0 end lost 4\n22 c0 take q0 1\n23 c0 start q0 262147 kind 5 words 0\n24 c0 say 0\n25 c0 say 0\n26 c0 say 0\n27 c0 say 0\n28 c0 fault alloc 15 3 o0\n29 c0 fault send 1 0 o0\n30 c0 fault alloc 15 3 o0\n31 c0 say 0\n32 c0 end lost 1\n33 c0 take q0 1\n34 c0 start q0 131074 kind 1 words 16 1 2 3 4 5 6 7 8 9 10 11 12 13 14 15 16\n35 c0 say 16\n36 c0 say 16\n37 c0 say 16\n38 c0 say 0\n39 c0 fault alloc 15 3 o0\n40 c0 fault send 1 0 o0\n41 c0 fault alloc 15 3 o0\n42 c0 say 0\n43 c0 end lost 1\nquiet\n",
     ),
+    (
+        "solo 10 1 0",
+        "cores 1\npool p 2 0\neo x running\nagroup a all\nqueue lo atomic x low in a\nqueue hi atomic x high in a\nboot\nalloc v0 p 1\nalloc v1 p 2\nsend v0 lo\nsend v1 hi\nend\nbody x receive\nsay kind\nfree me\nend\ndone\n",
+        0,
+        "trace 1\n0 c0 enter boot\n1 c0 alloc p0 65536 kind 1 words 0\n2 c0 alloc p0 65537 kind 2 words 0\n3 c0 send 65536 q0\n4 c0 send 65537 q1\n5 c0 end lost 0\n6 c0 take q1 1\n7 c0 start q1 131073 kind 2 words 0\n8 c0 say 2\n9 c0 free 131073\n10 c0 end lost 0 cells 0 0 0 0 0 0 0 0\n11 c0 take q0 1\n12 c0 start q0 131072 kind 1 words 0\n13 c0 say 1\n14 c0 free 131072\n15 c0 end lost 0 cells 0 0 0 0 0 0 0 0\nquiet\n",
+    ),
+    (
+        "solo 10 1 0,1",
+        "cores 2\npool p 2 0\neo x running\nagroup a all\nqueue lo atomic x low in a\nqueue hi atomic x high in a\nboot\nalloc v0 p 1\nalloc v1 p 2\nsend v0 lo\nsend v1 hi\nend\nbody x receive\nsay kind\nfree me\nend\ndone\n",
+        0,
+        "trace 1\n0 c0 enter boot\n1 c0 alloc p0 65536 kind 1 words 0\n2 c0 alloc p0 65537 kind 2 words 0\n3 c0 send 65536 q0\n4 c0 send 65537 q1\n5 c0 end lost 0\n6 c1 take q1 1\n7 c1 start q1 131073 kind 2 words 0\n8 c1 say 2\n9 c1 free 131073\n10 c1 end lost 0 cells 0 0 0 0 0 0 0 0\n11 c0 take q0 1\n12 c0 start q0 131072 kind 1 words 0\n13 c0 say 1\n14 c0 free 131072\n15 c0 end lost 0 cells 0 0 0 0 0 0 0 0\nquiet\n",
+    ),
+    (
+        "solo 10 1 0",
+        "cores 1\npool p 2 0\neo x running\nqueue q atomic x normal all\nqueue u unscheduled\nqueue o output\nboot\nalloc v0 p 3\nsend v0 u\ndequeue v1 u\ndequeue v2 u\nsend v1 q\nend\nbody x receive\ncell 0 add cell 0 7\nsay cell 0\nsend me o\nendatomic\nendatomic\nend\ndone\n",
+        0,
+        "trace 1\n0 c0 enter boot\n1 c0 alloc p0 65536 kind 3 words 0\n2 c0 send 65536 q1\n3 c0 dequeue q1 131072 kind 3 words 0\n4 c0 dequeue q1 none\n5 c0 send 131072 q0\n6 c0 end lost 0\n7 c0 take q0 1\n8 c0 start q0 196608 kind 3 words 0\n9 c0 say 7\n10 c0 send 196608 q2\n11 c0 out q2 kind 3 words 0\n12 c0 endatomic rest 0 cells 7 0 0 0 0 0 0 0\n13 c0 fault endatomic 7 0 o0\n14 c0 end lost 0\nquiet\n",
+    ),
+    (
+        "solo 10 1 0,1",
+        "cores 2\npool p 2 0\neo x running\nqueue q atomic x normal all\nboot\nalloc v0 p 1\nalloc v1 p 2\nsend v0 q\nsend v1 q\nend\nbody x receive\ncell 0 add cell 0 1\nendatomic\ncell 0 9\nsay kind\nfree me\nend\ndone\n",
+        0,
+        "trace 1\n0 c0 enter boot\n1 c0 alloc p0 65536 kind 1 words 0\n2 c0 alloc p0 65537 kind 2 words 0\n3 c0 send 65536 q0\n4 c0 send 65537 q0\n5 c0 end lost 0\n6 c1 take q0 1\n7 c1 start q0 131072 kind 1 words 0\n8 c1 endatomic rest 0 cells 1 0 0 0 0 0 0 0\n9 c0 take q0 1\n10 c0 start q0 131073 kind 2 words 0\n11 c1 fault cell 7 0 o0\n12 c0 endatomic rest 0 cells 2 0 0 0 0 0 0 0\n13 c1 say 1\n14 c0 fault cell 7 0 o0\n15 c1 free 131072\n16 c0 say 2\n17 c1 end lost 0\n18 c0 free 131073\n19 c0 end lost 0\nquiet\n",
+    ),
 ];
 
 #[test]
 fn runs_of_cores_and_queues(rt: HostRuntime) -> Result<(), Fail> {
     let alloc = rt.alloc();
     judge_rows(&rt, alloc, &RUNS)
+}
+
+/// Of an order the cores count that the script has, and those that it lacks follow upwards.
+#[test]
+fn orders_with_other_cores(rt: HostRuntime) -> Result<(), Fail> {
+    let alloc = rt.alloc();
+    let (_, script, status, trace) = HELD_BY_ANOTHER_CORE;
+    for words in ["solo 10 1 0", "solo 10 1 63,0", "solo 10 1 0,9,1,2"] {
+        let bytes = script.as_bytes().to_vec(alloc)?;
+        judge(&rt, alloc, words, bytes, status, trace)?;
+    }
+    Ok(())
 }
