@@ -1,139 +1,124 @@
--- What all statements of a body pass is passed by all that is left of it, and so by each statement that asks.
-use Rattle.std.proofs.Common.{◌≡◌, ℕ, zero, suc, Bool, List, [], ◌∷◌, Option, Some, None, IsTrue, sym, ap, ◌∙◌, subst}
-use Rattle.std.proofs.lemmas.Bool.{and_parts}
-use Rattle.std.specs.Option.{option_map}
+-- What all statements of a context's body and of its error body pass is passed by each statement that asks.
+use Rattle.std.proofs.Common.{◌≡◌, ◌⊎◌, inl, inr, true, Bool, List, [], ◌∷◌, Option, Some, None, IsTrue, refl, sym, ◌∙◌, subst}
+use Rattle.std.specs.Option.{option_map, option_map_or}
+use Rattle.em_log.specs.declared.ask.Answer.{Answer}
 use Rattle.em_log.specs.declared.ask.Ask.{Ask}
 use Rattle.em_log.specs.declared.ask.Context.{Context}
 use Rattle.em_log.specs.declared.body.Stmt.{Stmt}
+use Rattle.em_log.specs.declared.fault.Fault.{Fault}
 use Rattle.em_log.specs.declared.work.Move.{Move}
 use Rattle.em_log.specs.Bodies.{ask_of}
-use Rattle.em_log.specs.Expressions.{Env, value}
+use Rattle.em_log.specs.Expressions.{Env}
 use Rattle.em_log.specs.Works.{Exchange, Reached}
 use Rattle.em_body.specs.AskLaws.{IsAskOf}
-use Rattle.em_body.specs.Everywhere.{everywhere, everywhere_in}
+use Rattle.em_body.specs.Everywhere.{everywhere_in}
 use Rattle.em_body.specs.Followed.{IsReached}
-use Rattle.em_body.specs.Standings.{Made, Left, Standing, Does, Sets, Branches, Repeats, Writes, Asks, Moves, Ends, Goes, entered, resumed, first_in, first_of, without_first, after_first, chosen, does_ask, unanswered, body_of}
-use Rattle.em_body.proofs.Rows.{if-everywhere, repeat-everywhere}
+use Rattle.em_body.specs.Standings.{Made, Left, Outer, Standing, Steps, Ends, Goes, Moves, after_first, settled_by, settled, refused, left_by, unanswered, body_of, error_body_of}
+use Rattle.em_body.proofs.PassingBlocks.{Pass, AllPass, AskingPasses, entered-pass, first-pass, does-pass, unasked-passes, does-asking}
+use Rattle.em_body.proofs.Settled.{settled-asking, does-error, does-outer, steps-unasked}
 
-abbrev Pass : (Stmt → Bool) → List Stmt → Type 0
-Pass p ss = IsTrue (everywhere_in p ss)
+-- the statements of the body pass the test p, and those of the error body the test e
+module _ (p e : Stmt → Bool) where
+  -- the test of the statements in front
+  abbrev front : Option Outer → Stmt → Bool
+  front None = p
+  front (Some o) = e
 
-record BlockPasses (p : Stmt → Bool) (l : Left) : Type 0 where
-  rest : Pass p l.rest
-  block : Pass p l.block
+  abbrev ErrorPasses : Option (List Stmt) → Type 0
+  ErrorPasses error = IsTrue (option_map_or (everywhere_in e) error true)
 
-abbrev AllPass : (Stmt → Bool) → List Left → Type 0
-AllPass p [] = Unit {0}
-AllPass p (l ∷ ls) = BlockPasses p l × AllPass p ls
+  abbrev OuterPasses : Option Outer → Type 0
+  OuterPasses None = Unit {0}
+  OuterPasses (Some o) = AllPass p o.left
 
--- blocks
+  record Passes (s : Standing) : Type 0 where
+    left : AllPass (front s.outer) s.left
+    asking : AskingPasses (front s.outer) s.env s.asking
+    error : ErrorPasses s.error
+    outer : OuterPasses s.outer
 
-entered-pass : (p : Stmt → Bool) (block : List Stmt) (n : ℕ) (ls : List Left) → Pass p block → AllPass p ls → AllPass p (entered block n ls)
-entered-pass p [] n ls all under = under
-entered-pass p (s ∷ ss) zero ls all under = under
-entered-pass p (s ∷ ss) (suc n) ls all under = (record { rest = all; block = all }, under)
+  -- moves
 
-resumed-pass : (p : Stmt → Bool) (rest block : List Stmt) (n : ℕ) (ls : List Left) → Pass p rest → Pass p block → AllPass p ls
-    → AllPass p (resumed rest block n ls)
-resumed-pass p [] block n ls left all under = entered-pass p block n ls all under
-resumed-pass p (s ∷ ss) block n ls left all under = (record { rest = left; block = all }, under)
+  by-pass : (ls : List Left) (o : Option Outer) (s : Standing) → s.asking ≡ None → OuterPasses o → Passes s → Passes (settled_by ls o s)
+  by-pass [] (Some o) s none under passes =
+      record { left = under; asking = unasked-passes p _ s.asking none; error = passes.error; outer = tt }
+  by-pass [] None s none under passes = passes
+  by-pass (l ∷ ls) o s none under passes = passes
 
--- the next statement passes, and what is left after it
+  steps-pass : (was : Standing) (m : Move) (now : Standing) → Passes was → Steps was m now → Passes now
+  steps-pass was m now passes (Ends none empty is same) = subst Passes (sym same) passes
+  steps-pass was m now passes (Goes q none first does) =
+      let at : Standing = record was { left = after_first was.left } in
+      let next = first-pass (front was.outer) was.left q passes.left first in
+      let error = does-error q at m now does in
+      let outer = does-outer q at m now does in
+      record {
+        left = subst (λ o. AllPass (front o) now.left) (sym outer) (does-pass (front was.outer) q at m now next.0 next.1 does);
+        asking = subst (λ o. AskingPasses (front o) now.env now.asking) (sym outer) (does-asking (front was.outer) q at m now next.0 none does);
+        error = subst ErrorPasses (sym error) passes.error;
+        outer = subst OuterPasses (sym outer) passes.outer;
+      }
 
-first-pass-in : (p : Stmt → Bool) (rest block : List Stmt) (n : ℕ) (ls : List Left) (s : Stmt) → Pass p rest → Pass p block → AllPass p ls
-    → first_in rest ≡ Some s → IsTrue (everywhere p s) × AllPass p (resumed (without_first rest) block n ls)
-first-pass-in p [] block n ls s left all under is = absurd (cc is)
-first-pass-in p (q ∷ ss) block n ls s left all under is =
-    let both = and_parts (everywhere p q) (everywhere_in p ss) left in
-    let e : q ≡ s = cc is in
-    (subst (λ x. IsTrue (everywhere p x)) e both.0, resumed-pass p ss block n ls both.1 all under)
+  moves-pass : (f : Made) (was : Standing) (m : Move) (now : Standing) → Passes was → Moves f was m now → Passes now
+  moves-pass f was m now passes moves =
+      let none : was.asking ≡ None = sym (settled-asking was) ∙ steps-unasked (settled was) m now moves in
+      steps-pass (settled was) m now (by-pass was.left was.outer was none passes.outer passes) moves
 
-first-pass : (p : Stmt → Bool) (ls : List Left) (s : Stmt) → AllPass p ls → first_of ls ≡ Some s
-    → IsTrue (everywhere p s) × AllPass p (after_first ls)
-first-pass p [] s all is = absurd (cc is)
-first-pass p (l ∷ ls) s (here, under) is = first-pass-in p l.rest l.block l.again ls s here.rest here.block under is
+  -- answers
 
-chosen-pass : (p : Stmt → Bool) (n : ℕ) (first second : List Stmt) → Pass p first → Pass p second → Pass p (chosen n first second)
-chosen-pass p zero first second a b = b
-chosen-pass p (suc n) first second a b = a
+  refused-pass : (error : Option (List Stmt)) (outer : Option Outer) (q : Stmt) (f : Fault) (s : Standing) → ErrorPasses error → s.outer ≡ outer
+      → Passes s → Passes (refused error outer q f s)
+  refused-pass (Some body) None q f s fits is passes =
+      record {
+        left = entered-pass e body 1 [] fits tt;
+        asking = tt;
+        error = passes.error;
+        outer = subst (λ o. AllPass (front o) s.left) is passes.left;
+      }
+  refused-pass (Some body) (Some o) q f s fits is passes = record { left = passes.left; asking = tt; error = passes.error; outer = passes.outer }
+  refused-pass None outer q f s fits is passes = record { left = passes.left; asking = tt; error = passes.error; outer = passes.outer }
 
--- what a statement leaves passes
-does-pass : (p : Stmt → Bool) (s : Stmt) (was : Standing) (m : Move) (now : Standing) → IsTrue (everywhere p s) → AllPass p was.left
-    → Does s was m now → AllPass p now.left
-does-pass p s was m now passes all (Sets i e is silent new) = subst (AllPass p) (sym (ap (λ t. t.left) new)) all
-does-pass p s was m now passes all (Branches t first second has_else is silent new) =
-    let blocks = sym (if-everywhere p t first second has_else) ∙ sym (ap (everywhere p) is) ∙ passes in
-    let both = and_parts (everywhere_in p first) (everywhere_in p second) blocks in
-    subst (AllPass p) (sym (ap (λ t. t.left) new))
-    (entered-pass p (chosen (value t was.env) first second) 1 was.left (chosen-pass p (value t was.env) first second both.0 both.1) all)
-does-pass p s was m now passes all (Repeats n block is silent new) =
-    subst (AllPass p) (sym (ap (λ t. t.left) new))
-    (entered-pass p block n was.left (sym (repeat-everywhere p n block) ∙ sym (ap (everywhere p) is) ∙ passes) all)
-does-pass p s was m now passes all (Writes c e cells is some silent new) = subst (AllPass p) (sym (ap (λ t. t.left) new)) all
-does-pass p s was m now passes all (Asks does is new) = subst (AllPass p) (sym (ap (λ t. t.left) new)) all
+  left-pass : (o : Option Stmt) (x : Answer) (s : Standing) → Passes s → Passes (left_by o x s)
+  left-pass None x s passes = record { left = passes.left; asking = tt; error = passes.error; outer = passes.outer }
+  left-pass (Some q) (Answer.Refused f) s passes = refused-pass s.error s.outer q f s passes.error refl passes
+  left-pass (Some q) x s passes = record { left = passes.left; asking = tt; error = passes.error; outer = passes.outer }
 
--- the statement that asks
+  -- each state that a context reaches
 
--- a statement that passes and asks in this environment
-pub record AsksThere (p : Stmt → Bool) (v : Env) (s : Stmt) : Type 0 where
-  pub passes : IsTrue (p s)
-  pub asks : IsTrue (does_ask s v)
-
-abbrev AskingPasses : (Stmt → Bool) → Env → Option Stmt → Type 0
-AskingPasses p v None = Unit {0}
-AskingPasses p v (Some s) = AsksThere p v s
-
--- a statement that asks holds no blocks
-asking-passes : (p : Stmt → Bool) (s : Stmt) (v : Env) → IsTrue (everywhere p s) → IsTrue (does_ask s v) → IsTrue (p s)
-asking-passes p (Stmt.If' t _ first _ second b) v passes does = absurd (cc does)
-asking-passes p (Stmt.Repeat' n _ block) v passes does = absurd (cc does)
-asking-passes p s v passes does = passes
-
-unasked-passes : (p : Stmt → Bool) (v : Env) (o : Option Stmt) → o ≡ None → AskingPasses p v o
-unasked-passes p v None none = tt
-unasked-passes p v (Some s) none = absurd (cc none)
-
-does-asking : (p : Stmt → Bool) (s : Stmt) (was : Standing) (m : Move) (now : Standing) → IsTrue (everywhere p s) → was.asking ≡ None
-    → Does s was m now → AskingPasses p now.env now.asking
-does-asking p s was m now passes none (Sets i e is silent new) = unasked-passes p now.env now.asking (ap (λ t. t.asking) new ∙ none)
-does-asking p s was m now passes none (Branches t first second has_else is silent new) = unasked-passes p now.env now.asking (ap (λ t. t.asking) new ∙ none)
-does-asking p s was m now passes none (Repeats n block is silent new) = unasked-passes p now.env now.asking (ap (λ t. t.asking) new ∙ none)
-does-asking p s was m now passes none (Writes c e cells is some silent new) = unasked-passes p now.env now.asking (ap (λ t. t.asking) new ∙ none)
-does-asking p s was m now passes none (Asks does is new) =
-    subst (λ t. AskingPasses p t.env t.asking) (sym new) (record { passes = asking-passes p s was.env passes does; asks = does })
-
--- each state that a context reaches
-
-record Passes (p : Stmt → Bool) (s : Standing) : Type 0 where
-  left : AllPass p s.left
-  asking : AskingPasses p s.env s.asking
-
-moves-pass : (p : Stmt → Bool) (f : Made) (was : Standing) (m : Move) (now : Standing) → Passes p was → Moves f was m now → Passes p now
-moves-pass p f was m now keeps (Ends none empty is same) = subst (Passes p) (sym same) keeps
-moves-pass p f was m now keeps (Goes s none first does) =
-    let next = first-pass p was.left s keeps.left first in
-    record {
-      left = does-pass p s (record was { left = after_first was.left }) m now next.0 next.1 does;
-      asking = does-asking p s (record was { left = after_first was.left }) m now next.0 none does;
-    }
-
-reached-pass : (p : Stmt → Bool) (f : Made) (c : Context) (es : List Exchange) (s : Standing) → Pass p (body_of f.graph c) → IsReached f c es s
-    → Passes p s
-reached-pass p f c es s all (Reached.Begun _ _ none begins) =
-    subst (Passes p) (sym begins) (record { left = entered-pass p (body_of f.graph c) 1 [] all tt; asking = tt })
-reached-pass p f c es s all (Reached.Silent _ was _ before moves) =
-    moves-pass p f was Move.Silent s (reached-pass p f c es was all before) moves
-reached-pass p f c es s all (Reached.Asked _ was _ a before moves) =
-    moves-pass p f was (Move.Ask a) s (reached-pass p f c es was all before) moves
-reached-pass p f c es s all (Reached.Answered _ past was _ a x before some fits leaves is) =
-    subst (Passes p) (sym leaves) (record { left = (reached-pass p f c past was all before).left; asking = tt })
+  reached-pass : (f : Made) (c : Context) (es : List Exchange) (s : Standing) → Pass p (body_of f.graph c) → ErrorPasses (error_body_of f.graph c)
+      → IsReached f c es s → Passes s
+  reached-pass f c es s all errors (Reached.Begun _ _ none begins) =
+      subst Passes (sym begins) (record { left = entered-pass p (body_of f.graph c) 1 [] all tt; asking = tt; error = errors; outer = tt })
+  reached-pass f c es s all errors (Reached.Silent _ was _ before moves) =
+      moves-pass f was Move.Silent s (reached-pass f c es was all errors before) moves
+  reached-pass f c es s all errors (Reached.Asked _ was _ a before moves) =
+      moves-pass f was (Move.Ask a) s (reached-pass f c es was all errors before) moves
+  reached-pass f c es s all errors (Reached.Answered _ past was _ a x before some fits leaves is) =
+      subst Passes (sym leaves) (left-pass was.asking x was (reached-pass f c past was all errors before))
 
 ask-passes : (p : Stmt → Bool) (v : Env) (o : Option Stmt) (a : Ask) → AskingPasses p v o → option_map (λ q. ask_of q v) o ≡ Some a → IsAskOf p a v
 ask-passes p v None a passes is = absurd (cc is)
 ask-passes p v (Some s) a passes is =
-    let e : a ≡ ask_of s v = cc is in
-    record { statement = s; passes = passes.passes; asks = passes.asks; is = e }
+    let same : a ≡ ask_of s v = cc is in
+    record { statement = s; passes = passes.passes; asks = passes.asks; is = same }
+
+-- each ask is that of a statement of the body, or of one of the error body
+pub asks-of-both : (p e : Stmt → Bool) (f : Made) (c : Context) (es : List Exchange) (s : Standing) → IsReached f c es s
+    → IsTrue (everywhere_in p (body_of f.graph c)) → IsTrue (option_map_or (everywhere_in e) (error_body_of f.graph c) true) → (a : Ask)
+    → unanswered s ≡ Some a → IsAskOf p a s.env ⊎ IsAskOf e a s.env
+asks-of-both p e f c es s reached all errors a some =
+    let passes = reached-pass p e f c es s all errors reached in
+    by_body s.outer passes.asking
+  where
+    by_body : (o : Option Outer) → AskingPasses (front p e o) s.env s.asking → IsAskOf p a s.env ⊎ IsAskOf e a s.env
+    by_body None passes = inl (ask-passes p s.env s.asking a passes some)
+    by_body (Some o) passes = inr (ask-passes e s.env s.asking a passes some)
 
 pub asks-are : (p : Stmt → Bool) (f : Made) (c : Context) (es : List Exchange) (s : Standing) → IsReached f c es s
-    → IsTrue (everywhere_in p (body_of f.graph c)) → (a : Ask) → unanswered s ≡ Some a → IsAskOf p a s.env
-asks-are p f c es s reached all a some = ask-passes p s.env s.asking a (reached-pass p f c es s all reached).asking some
+    → IsTrue (everywhere_in p (body_of f.graph c)) → IsTrue (option_map_or (everywhere_in p) (error_body_of f.graph c) true) → (a : Ask)
+    → unanswered s ≡ Some a → IsAskOf p a s.env
+asks-are p f c es s reached all errors a some = by_body (asks-of-both p p f c es s reached all errors a some)
+  where
+    by_body : IsAskOf p a s.env ⊎ IsAskOf p a s.env → IsAskOf p a s.env
+    by_body (inl is) = is
+    by_body (inr is) = is

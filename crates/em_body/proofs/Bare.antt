@@ -3,10 +3,10 @@ use Rattle.std.proofs.Common.{◌≡◌, ℕ, zero, suc, List, [], ◌∷◌, Op
 use Rattle.em_log.specs.declared.body.Stmt.{Stmt}
 use Rattle.em_log.specs.declared.body.Stmt.TheBlock.{Row_of-Stmt, end_of-Stmt, more_of-Stmt}
 use Rattle.em_log.specs.declared.entry.What.{What}
-use Rattle.em_log.specs.Bodies.{Pair, Reading, Behavior, Handler, writes, stays, continued, and_then, turns, branch, follow, follow_row, follow_all}
+use Rattle.em_log.specs.Bodies.{Pair, Reading, Behavior, Handler, back, served, unserved, serves, writes, stays, continued, and_then, turns, branch, follow, follow_row, follow_all}
 use Rattle.em_log.specs.Expressions.{Env, value}
-use Rattle.em_body.specs.Standings.{Left, Standing}
-use Rattle.em_body.specs.Followed.{follow_block, follow_left, follow_asking, ahead}
+use Rattle.em_body.specs.Standings.{Left, Outer, Standing}
+use Rattle.em_body.specs.Followed.{follow_block, follow_left, follow_asking, going, ahead}
 use mathlib.Core.Former.{Count}
 
 pub record IsBare (r : Reading) : Type 0 where
@@ -70,5 +70,21 @@ asking-bare : (h : Handler) (o : Option Stmt) (ls : List Left) → IsQuiet (foll
 asking-bare h None ls v = left-bare h ls v
 asking-bare h (Some s) ls v = record { pairs = refl; rest = refl }
 
-pub ahead-bare : (h : Handler) (s : Standing) → IsBare (ahead h s [])
-ahead-bare h s = asking-bare h s.asking s.left s.env
+-- after an error body too
+back-bare : (i : Option ℕ) (v : Env) (ps : List Pair) (ws : List What) (o : Option Env) → ps ≡ [] → ws ≡ []
+    → IsBare (back i v (record { pairs = ps; rest = ws; env = o }) o)
+back-bare i v ps ws None no_pairs no_rest = record { pairs = no_pairs; rest = no_rest }
+back-bare i v ps ws (Some u) no_pairs no_rest = record { pairs = no_pairs; rest = no_rest }
+
+served-bare : (i : Option ℕ) (v : Env) (r : Reading) → IsBare r → IsBare (served i v r)
+served-bare i v r bare = back-bare i v r.pairs r.rest r.env bare.pairs bare.rest
+
+going-bare : (o : Option Outer) (s : Standing) → IsBare (going o s [])
+going-bare None s = asking-bare (serves s.error) s.asking s.left s.env
+going-bare (Some o) s =
+    and_then-bare (served o.variable o.env (follow_asking unserved s.asking s.left s.env [])) (follow_left (serves s.error) o.left)
+    (served-bare o.variable o.env (follow_asking unserved s.asking s.left s.env []) (asking-bare unserved s.asking s.left s.env))
+    (left-bare (serves s.error) o.left)
+
+pub ahead-bare : (s : Standing) → IsBare (ahead s [])
+ahead-bare s = going-bare s.outer s

@@ -12,7 +12,7 @@ use Rattle.em_log.specs.declared.work.Move.{Move}
 use Rattle.em_log.specs.Expressions.{value}
 use Rattle.em_log.specs.WellFormed.{Where, is_statement, is_expression, is_empty_row}
 use Rattle.em_body.specs.Standings.{Left, Standing, Does, Sets, Branches, Repeats, Writes, Asks, entered, resumed, first_in, first_of, without_first, after_first, chosen, nests}
-use Rattle.em_body.specs.Runs.{AreNested, IsSound}
+use Rattle.em_body.specs.Runs.{AreNested}
 use Rattle.em_body.proofs.Rows.{if-statement, if-nests, repeat-statement, repeat-nests}
 
 abbrev AllFit : Config → Where → ℕ → List Stmt → Type 0
@@ -133,20 +133,3 @@ pub room : (g : Config) (w : Where) (s : Stmt) (ls : List Left) → Opened g w s
 room g w s ls o deep =
     let a : o.depth + length ls ≤ 17 = nested-length g w o.depth ls o.nested in
     let b : 0 < o.depth = depth-of g w o.depth s o.fits deep in omega arith
-
--- a run that is sound, at its next statement
-
-opened-of : (g : Config) (ls rest : List Left) (s : Stmt) (sound : IsSound g ls) → Some s ≡ first_of ls → rest ≡ after_first ls
-    → Opened g sound.nested.0 s rest
-opened-of g ls rest s sound first is =
-    subst (λ r. Opened g sound.nested.0 s r) (sym is) (opened g sound.nested.0 0 ls s sound.nested.1 (sym first))
-
-pub has-room : (g : Config) (ls rest : List Left) (s : Stmt) → IsSound g ls → Some s ≡ first_of ls → rest ≡ after_first ls → IsTrue (nests s)
-    → length rest < 17
-has-room g ls rest s sound first is deep = room g sound.nested.0 s rest (opened-of g ls rest s sound first is) deep
-
-pub stays-sound : (g : Config) (ls : List Left) (s : Stmt) (was : Standing) (m : Move) (now : Standing) → IsSound g ls → Some s ≡ first_of ls
-    → was.left ≡ after_first ls → Does s was m now → IsSound g now.left
-stays-sound g ls s was m now sound first is does =
-    let o = opened-of g ls was.left s sound first is in
-    record { graph = sound.graph; nested = (sound.nested.0, does-nested g sound.nested.0 o.depth s was m now o.fits o.nested does) }

@@ -1,10 +1,9 @@
 -- A statement of a well-formed body asks for what is declared, and where its ask may stand.
 use mathlib.Core.Former.{Count}
-use Rattle.std.proofs.Common.{◌≡◌, ℕ, zero, suc, ◌%◌, ◌^◌, ◌&&◌, ◌||◌, nat_eq, Bool, true, List, [], ◌∷◌, length, map, Option, Some, None, IsTrue, refl, sym, ap, subst, arith}
-use Rattle.std.proofs.lemmas.Bool.{and_parts, and_from, lt-ltb}
+use Rattle.std.proofs.Common.{◌≡◌, ℕ, zero, suc, ◌&&◌, ◌||◌, Bool, true, List, [], ◌∷◌, length, map, Option, Some, None, IsTrue, refl, sym, ap, subst}
+use Rattle.std.proofs.lemmas.Bool.{and_parts, and_from}
 use Rattle.std.proofs.lemmas.List.{length-map}
-use Rattle.std.proofs.lemmas.Nat.{mod_below}
-use Rattle.std.specs.Prelude.{not, nat_le, nat_lt, is_none}
+use Rattle.std.specs.Prelude.{nat_le, nat_lt, is_none}
 use Rattle.std.specs.List.{list_all}
 use Rattle.em_log.specs.declared.ask.Context.{Context}
 use Rattle.em_log.specs.declared.body.Expr.{Expr}
@@ -12,16 +11,14 @@ use Rattle.em_log.specs.declared.body.Stmt.{Stmt}
 use Rattle.em_log.specs.declared.body.Stmt.TheBlock.{Row_of-Stmt, end_of-Stmt, more_of-Stmt}
 use Rattle.em_log.specs.declared.graph.Config.{Config}
 use Rattle.em_log.specs.declared.ids.QueueId.{QueueId}
-use Rattle.em_log.specs.Bodies.{ask_of, notes_in, zeros_or}
-use Rattle.em_log.specs.Contexts.{is_boot}
+use Rattle.em_log.specs.Bodies.{ask_of, notes_in}
 use Rattle.em_log.specs.Declarations.{declarations_of, pool_shape, queue_shape, eo_shape, group_shape}
-use Rattle.em_log.specs.Expressions.{Env, value, values}
-use Rattle.em_log.specs.Lawful.{is_boot_or_receive, is_declared, is_global_start, is_placed, is_queue, have_queues}
-use Rattle.em_log.specs.WellFormed.{Where, is_statement, are_statements, is_plain, is_expression, are_expressions, is_empty_row, is_variable, is_queue_number, is_group_number, is_note, are_note_expressions, may_begin, may_fail, is_of_object}
+use Rattle.em_log.specs.Expressions.{Env}
+use Rattle.em_log.specs.Lawful.{is_declared, is_placed, is_queue, have_queues}
+use Rattle.em_log.specs.WellFormed.{Where, is_statement, are_statements, is_plain, is_expression, are_expressions, is_empty_row, is_variable, is_queue_number, is_group_number, is_note, are_note_expressions, may_begin, is_of_object}
 use Rattle.em_body.specs.Everywhere.{everywhere, everywhere_row, everywhere_in}
 use Rattle.em_body.specs.Standings.{does_ask, entry_of}
-use Rattle.em_body.proofs.Bodies.{place_of}
-use Rattle.em_body.proofs.Measures.{length-notes}
+use Rattle.em_body.proofs.ErrorBodies.{IsPlaceIn}
 
 -- the statements of a body that hold no blocks, those in blocks among them
 
@@ -121,53 +118,29 @@ ask-declared g w s v fits does = refl
 
 -- where an ask may stand
 
-of-object-placed : (c : Context) → IsTrue (is_of_object (place_of c)) → IsTrue (not (is_boot (Some (entry_of c))))
-of-object-placed Context.Boot h = absurd (cc h)
-of-object-placed (Context.Receive r) h = refl
-of-object-placed (Context.GlobalStart op x) h = refl
-of-object-placed (Context.LocalStart op x) h = refl
-of-object-placed (Context.LocalStop op x) h = refl
-of-object-placed (Context.GlobalStop op x) h = refl
-
-begin-placed : (c : Context) → IsTrue (may_begin (place_of c)) → IsTrue (is_boot_or_receive (Some (entry_of c)))
-begin-placed Context.Boot h = refl
-begin-placed (Context.Receive r) h = refl
-begin-placed (Context.GlobalStart op x) h = absurd (cc h)
-begin-placed (Context.LocalStart op x) h = absurd (cc h)
-begin-placed (Context.LocalStop op x) h = absurd (cc h)
-begin-placed (Context.GlobalStop op x) h = absurd (cc h)
-
-fail-placed : (c : Context) → IsTrue (may_fail (place_of c)) → IsTrue (is_global_start (Some (entry_of c)))
-fail-placed Context.Boot h = absurd (cc h)
-fail-placed (Context.Receive r) h = absurd (cc h)
-fail-placed (Context.GlobalStart op x) h = refl
-fail-placed (Context.LocalStart op x) h = absurd (cc h)
-fail-placed (Context.LocalStop op x) h = absurd (cc h)
-fail-placed (Context.GlobalStop op x) h = absurd (cc h)
-
 -- where the environment has no cells, no atomic context is held
 none-held : (cells : Option (List ℕ)) (atomic : Option ℕ) → IsTrue (is_none cells) → (cells ≡ None → atomic ≡ None) → IsTrue (is_none atomic)
 none-held None atomic none held = ap is_none (held refl)
 none-held (Some cells) atomic none held = absurd (cc none)
 
-pub ask-placed : (g : Config) (c : Context) (s : Stmt) (v : Env) → IsTrue (is_plain g (place_of c) s) → IsTrue (does_ask s v)
+pub ask-placed : (g : Config) (w : Where) (c : Context) → IsPlaceIn w c → (s : Stmt) (v : Env) → IsTrue (is_plain g w s) → IsTrue (does_ask s v)
     → (atomic : Option ℕ) → (v.cells ≡ None → atomic ≡ None) → IsTrue (is_placed (Some (entry_of c)) atomic (ask_of s v))
-ask-placed g c (Stmt.Set i e) v fits does atomic held = absurd (cc does)
-ask-placed g c (Stmt.If' t _ first _ second b) v fits does atomic held = absurd (cc does)
-ask-placed g c (Stmt.Repeat' n _ block) v fits does atomic held = absurd (cc does)
-ask-placed g c (Stmt.CellWrite i e) v fits does atomic held = none-held v.cells atomic does held
-ask-placed g c (Stmt.Keep e) v fits does atomic held =
-    of-object-placed c (and_parts (is_of_object (place_of c)) (is_expression e) fits).0
-ask-placed g c (Stmt.Claim i) v fits does atomic held = of-object-placed c (and_parts (is_of_object (place_of c)) (is_variable i) fits).0
-ask-placed g c (Stmt.Start x ns) v fits does atomic held =
-    let a = and_parts (may_begin (place_of c) && nat_lt x.0 (length g.eos)) (are_note_expressions g ns) fits in
-    begin-placed c (and_parts (may_begin (place_of c)) (nat_lt x.0 (length g.eos)) a.0).0
-ask-placed g c (Stmt.Stop x ns) v fits does atomic held =
-    let a = and_parts (may_begin (place_of c) && nat_lt x.0 (length g.eos)) (are_note_expressions g ns) fits in
-    begin-placed c (and_parts (may_begin (place_of c)) (nat_lt x.0 (length g.eos)) a.0).0
-ask-placed g c (Stmt.Modify n e ns) v fits does atomic held =
-    let a = and_parts (may_begin (place_of c) && is_group_number g n && is_expression e) (are_note_expressions g ns) fits in
-    let b = and_parts (may_begin (place_of c) && is_group_number g n) (is_expression e) a.0 in
-    begin-placed c (and_parts (may_begin (place_of c)) (is_group_number g n) b.0).0
-ask-placed g c Stmt.Fail v fits does atomic held = fail-placed c fits
-ask-placed g c s v fits does atomic held = refl
+ask-placed g w c in_context (Stmt.Set i e) v fits does atomic held = absurd (cc does)
+ask-placed g w c in_context (Stmt.If' t _ first _ second b) v fits does atomic held = absurd (cc does)
+ask-placed g w c in_context (Stmt.Repeat' n _ block) v fits does atomic held = absurd (cc does)
+ask-placed g w c in_context (Stmt.CellWrite i e) v fits does atomic held = none-held v.cells atomic does held
+ask-placed g w c in_context (Stmt.Keep e) v fits does atomic held =
+    in_context.of_object (and_parts (is_of_object w) (is_expression e) fits).0
+ask-placed g w c in_context (Stmt.Claim i) v fits does atomic held = in_context.of_object (and_parts (is_of_object w) (is_variable i) fits).0
+ask-placed g w c in_context (Stmt.Start x ns) v fits does atomic held =
+    let a = and_parts (may_begin w && nat_lt x.0 (length g.eos)) (are_note_expressions g ns) fits in
+    in_context.begins (and_parts (may_begin w) (nat_lt x.0 (length g.eos)) a.0).0
+ask-placed g w c in_context (Stmt.Stop x ns) v fits does atomic held =
+    let a = and_parts (may_begin w && nat_lt x.0 (length g.eos)) (are_note_expressions g ns) fits in
+    in_context.begins (and_parts (may_begin w) (nat_lt x.0 (length g.eos)) a.0).0
+ask-placed g w c in_context (Stmt.Modify n e ns) v fits does atomic held =
+    let a = and_parts (may_begin w && is_group_number g n && is_expression e) (are_note_expressions g ns) fits in
+    let b = and_parts (may_begin w && is_group_number g n) (is_expression e) a.0 in
+    in_context.begins (and_parts (may_begin w) (is_group_number g n) b.0).0
+ask-placed g w c in_context Stmt.Fail v fits does atomic held = in_context.fails fits
+ask-placed g w c in_context s v fits does atomic held = refl

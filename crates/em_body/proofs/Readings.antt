@@ -3,7 +3,7 @@ use Rattle.std.proofs.Common.{◌≡◌, ℕ, zero, suc, List, [], ◌∷◌, �
 use Rattle.std.proofs.Math.Path.{fun_ext}
 use Rattle.em_log.specs.declared.entry.What.{What}
 use Rattle.em_log.specs.Expressions.{Env}
-use Rattle.em_log.specs.Bodies.{Pair, Reading, Behavior, stays, with_pairs, continued, and_then, turns}
+use Rattle.em_log.specs.Bodies.{Pair, Reading, Behavior, back, served, stays, with_pairs, continued, and_then, turns}
 
 abbrev read : List Pair → List What → Option Env → Reading
 read ps ws o = record { pairs = ps; rest = ws; env = o }
@@ -47,6 +47,16 @@ and_then-assoc r f g = continued-assoc r.pairs r.rest r.env f g
 
 pub behavior : {f g : Behavior} → ((v : Env) (ws : List What) → f v ws ≡ g v ws) → f ≡ g
 behavior same = fun_ext (λ v. fun_ext (λ ws. same v ws))
+
+-- the pairs before an error body's stay in front
+
+back-pairs : (i : Option ℕ) (v : Env) (ps qs : List Pair) (ws : List What) (o : Option Env)
+    → back i v (with_pairs ps (read qs ws o)) o ≡ with_pairs ps (back i v (read qs ws o) o)
+back-pairs i v ps qs ws None = refl
+back-pairs i v ps qs ws (Some u) = refl
+
+pub served-pairs : (i : Option ℕ) (v : Env) (ps : List Pair) (r : Reading) → served i v (with_pairs ps r) ≡ with_pairs ps (served i v r)
+served-pairs i v ps r = back-pairs i v ps r.pairs r.rest r.env
 
 -- turns of nothing, and one turn
 

@@ -1,5 +1,6 @@
 -- What is known of each ask of a body: the statement that it is of, and that it may stand in its context.
 use Rattle.std.specs.Prelude.{ℕ, ◌≡◌, Bool, true, List, Option, Some, None, IsTrue}
+use Rattle.std.specs.Option.{option_map_or}
 use Rattle.em_log.specs.declared.ask.Ask.{Ask}
 use Rattle.em_log.specs.declared.ask.Context.{Context}
 use Rattle.em_log.specs.declared.body.Stmt.{Stmt}
@@ -12,7 +13,7 @@ use Rattle.em_log.specs.WellFormed.{IsWellFormed}
 use Rattle.em_log.specs.Works.{Exchange}
 use Rattle.em_body.specs.Everywhere.{everywhere_in}
 use Rattle.em_body.specs.Followed.{IsReached}
-use Rattle.em_body.specs.Standings.{Made, Standing, unanswered, body_of, entry_of, does_ask, opening}
+use Rattle.em_body.specs.Standings.{Made, Standing, unanswered, body_of, error_body_of, entry_of, does_ask, opening}
 
 -- the ask is that of a statement which passes this test, and asks in this environment
 pub record IsAskOf (p : Stmt → Bool) (a : Ask) (v : Env) : Type 0 where
@@ -21,11 +22,12 @@ pub record IsAskOf (p : Stmt → Bool) (a : Ask) (v : Env) : Type 0 where
   pub asks : IsTrue (does_ask statement v)
   pub is : a ≡ ask_of statement v
 
--- each ask is that of a statement of the context's body, in the environment of its state: what is true of all statements
--- of the body is true of this one
+-- each ask is that of a statement of the context's body or of the error body that serves it, in the environment of its
+-- state: what is true of all statements of both is true of this one
 abbrev pub AsksAreOfStatements : Type 0
 AsksAreOfStatements = (p : Stmt → Bool) (f : Made) (c : Context) (es : List Exchange) (s : Standing) → IsReached f c es s
-    → IsTrue (everywhere_in p (body_of f.graph c)) → (a : Ask) → unanswered s ≡ Some a → IsAskOf p a s.env
+    → IsTrue (everywhere_in p (body_of f.graph c)) → IsTrue (option_map_or (everywhere_in p) (error_body_of f.graph c) true)
+    → (a : Ask) → unanswered s ≡ Some a → IsAskOf p a s.env
 
 -- what the ask names is declared, and the ask may stand in the context, which holds an atomic context only where the
 -- environment has cells

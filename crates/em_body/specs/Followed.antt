@@ -13,13 +13,13 @@ use Rattle.em_log.specs.declared.ids.EoId.{EoId}
 use Rattle.em_log.specs.declared.work.Move.{Move}
 use Rattle.em_log.specs.Allowance.{cost_of_ask}
 use Rattle.em_log.specs.Answers.{answer_of}
-use Rattle.em_log.specs.Bodies.{Pair, Reading, Behavior, Handler, ask_of, variable, asks, stays, and_then, turns, with_pairs, follow_all, serves}
+use Rattle.em_log.specs.Bodies.{Pair, Reading, Behavior, Handler, ask_of, variable, asks, stays, and_then, turns, with_pairs, follow_all, served, unserved, serves}
 use Rattle.em_log.specs.History.{Past}
 use Rattle.em_log.specs.Leads.{call_of, lead}
 use Rattle.em_log.specs.Weights.{steps_of}
 use Rattle.em_log.specs.WellFormed.{IsWellFormed}
 use Rattle.em_log.specs.Works.{Exchange, Reached, is_end}
-use Rattle.em_body.specs.Standings.{Left, Made, Standing, Begins, Moves, Leaves, unanswered, body_of, opening, first_of, does_ask}
+use Rattle.em_body.specs.Standings.{Left, Made, Outer, Standing, Begins, Moves, Leaves, unanswered, body_of, error_body_of, opening, settled, first_of, does_ask}
 
 -- entries that answers are read from
 
@@ -64,10 +64,6 @@ pairs_of _ _ = []
 
 -- the reading of what is left of a body
 
--- no error body serves a fault
-abbrev pub unserving : Handler
-unserving = serves None
-
 -- a block goes on with its statements that are left, and then comes again
 abbrev pub follow_block : Handler → Left → Behavior
 follow_block h l v ws = and_then (follow_all h l.rest v ws) (turns l.again (follow_all h l.block))
@@ -80,31 +76,40 @@ abbrev pub follow_asking : Handler → Option Stmt → List Left → Behavior
 follow_asking h None ls v ws = follow_left h ls v ws
 follow_asking h (Some s) ls v ws = and_then (asks h (ask_of s v) (variable s) v ws) (follow_left h ls)
 
+-- what is left of an error body comes first, where one runs: a fault inside it runs none
+abbrev pub going : Option Outer → Standing → List What → Reading
+going None s ws = follow_asking (serves s.error) s.asking s.left s.env ws
+going (Some o) s ws =
+    and_then (served o.variable o.env (follow_asking unserved s.asking s.left s.env ws)) (follow_left (serves s.error) o.left)
+
 -- how a body goes on from where it stands
-abbrev pub ahead : Handler → Standing → List What → Reading
-ahead h s ws = follow_asking h s.asking s.left s.env ws
+abbrev pub ahead : Standing → List What → Reading
+ahead s ws = going s.outer s ws
 
 -- a state that a context reaches by these exchanges, the newest first
 abbrev pub IsReached : Made → Context → List Exchange → Standing → Type 0
 IsReached f c es s = Reached Begins Moves Leaves unanswered f c es s
 
+-- the context's body, whose faults are served by the error body of its object, else by the global one
+abbrev pub whole : Made → Context → List What → Reading
+whole f c ws = follow_all (serves (error_body_of f.graph c)) (body_of f.graph c) (opening f.core c) ws
+
 -- the reading of the context's body along entries of which the newest comes first
 abbrev pub reading : Made → Context → List What → Reading
-reading f c ws = follow_all unserving (body_of f.graph c) (opening f.core c) (reverse ws)
+reading f c ws = whole f c (reverse ws)
 
 -- the body of a context has been followed by these exchanges, read from these entries, to this state; both lists have the
 -- newest first
 pub record IsFollowed (f : Made) (c : Context) (es : List Exchange) (ws : List What) (s : Standing) : Type 0 where
   -- whatever comes further, the body goes on with it from this state
-  pub further : (more : List What) → follow_all unserving (body_of f.graph c) (opening f.core c) (reverse ws ++ more)
-      ≡ with_pairs (reverse (pairs_of es ws)) (ahead unserving s more)
+  pub further : (more : List What) → whole f c (reverse ws ++ more) ≡ with_pairs (reverse (pairs_of es ws)) (ahead s more)
   -- the pairs are just these asks with their entries, and no entry is left
   pub pairs : (reading f c ws).pairs ≡ reverse (pairs_of es ws)
   pub rest : (reading f c ws).rest ≡ []
   -- it is cut at an ask that is not answered yet
   pub cut : IsSome s.asking → (reading f c ws).env ≡ None
   -- where nothing is left it has ended in this environment
-  pub over : s.asking ≡ None → s.left ≡ [] → (reading f c ws).env ≡ Some s.env
+  pub over : s.asking ≡ None → (settled s).left ≡ [] → (reading f c ws).env ≡ Some (settled s).env
 
 -- a body is followed
 abbrev pub BodiesAreFollowed : Type 0
@@ -114,7 +119,7 @@ BodiesAreFollowed = (f : Made) (c : Context) (es : List Exchange) (s : Standing)
 -- a body ends exactly where nothing is left of it
 abbrev pub EndsWhereNothingIsLeft : Type 0
 EndsWhereNothingIsLeft = (f : Made) (s : Standing) (m : Move) (t : Standing) → Moves f s m t
-    → ((m ≡ Move.End) → (s.left ≡ []) × (t ≡ s)) × ((s.left ≡ []) → m ≡ Move.End)
+    → ((m ≡ Move.End) → ((settled s).left ≡ []) × (t ≡ settled s)) × (((settled s).left ≡ []) → m ≡ Move.End)
 
 -- how much a context does
 
@@ -135,9 +140,22 @@ abbrev pub ContextsAreBounded : Type 0
 ContextsAreBounded = (f : Made) → IsWellFormed f.graph → (c : Context) (es : List Exchange) (s : Standing) (r : IsReached f c es s)
     → (cost_of_all es s ≤ 256) × (carried_out r ≤ 65536)
 
--- the steps of the statements that are left, where no error body serves a fault
+-- the steps of what is left of a body's blocks, where faults are served by a body of so many steps
+abbrev pub steps_in : ℕ → List Left → ℕ
+steps_in error ls = sum_by (λ l. steps_of error l.rest + l.again * steps_of error l.block) ls
+
+-- the steps of the error body that serves a body
+abbrev pub steps_of_error : Option (List Stmt) → ℕ
+steps_of_error error = option_map_or (steps_of 0) error 0
+
+-- an unanswered ask may be refused, and run the error body; inside an error body none runs
+abbrev pub steps_ahead : Option Outer → Standing → ℕ
+steps_ahead None s = option_map_or (λ q. steps_of_error s.error) s.asking 0 + steps_in (steps_of_error s.error) s.left
+steps_ahead (Some o) s = steps_in 0 s.left + steps_in (steps_of_error s.error) o.left
+
+-- the steps that are left
 abbrev pub steps_left : Standing → ℕ
-steps_left s = sum_by (λ l. steps_of 0 l.rest + l.again * steps_of 0 l.block) s.left
+steps_left s = steps_ahead s.outer s
 
 -- in a context of a well-formed graph at most 65,536 steps are left
 abbrev pub StepsAreBounded : Type 0
@@ -152,7 +170,7 @@ StepsFall = (f : Made) (s : Standing) (m : Move) (t : Standing) → Moves f s m 
 -- a silent move carries out one statement, which asks nothing
 abbrev pub SilentWhereNothingIsAsked : Type 0
 SilentWhereNothingIsAsked = (f : Made) (s t : Standing) → Moves f s Move.Silent t
-    → (q : Stmt) × ((first_of s.left ≡ Some q) × (does_ask q s.env ≡ false))
+    → (q : Stmt) × ((first_of (settled s).left ≡ Some q) × (does_ask q (settled s).env ≡ false))
 
 -- the entry that an ask gives in a history is one that its answer is read from
 abbrev pub LeadsAreRead : Type 0

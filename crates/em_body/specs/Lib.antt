@@ -1,6 +1,7 @@
 pub mod Environments
 pub mod Standings
 pub mod Frames
+pub mod Kept
 pub mod Runs
 pub mod MoveLaws
 pub mod Followed

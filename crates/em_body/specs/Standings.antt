@@ -1,10 +1,12 @@
 -- Where a body stands, and what its statements do.
 use Rattle.std.specs.Prelude.{ℕ, zero, suc, ◌%◌, ◌≡◌, Bool, true, false, List, [], ◌∷◌, Option, Some, None, slice_get, slice_set, nat_le, IsTrue, length, is_none}
-use Rattle.std.specs.Option.{option_map, option_and_then}
+use Rattle.std.specs.Option.{option_map, option_and_then, option_or}
 use Rattle.em_log.specs.declared.body.Expr.{Expr}
 use Rattle.em_log.specs.declared.body.Stmt.{Stmt}
 use Rattle.em_log.specs.declared.body.Stmt.TheVariants as stmt
+use Rattle.em_log.specs.declared.fault.Fault.{Fault}
 use Rattle.em_log.specs.declared.graph.Config.{Config}
+use Rattle.em_log.specs.declared.graph.EoDecl.{EoDecl}
 use Rattle.em_log.specs.declared.ask.Answer.{Answer}
 use Rattle.em_log.specs.declared.ask.Ask.{Ask}
 use Rattle.em_log.specs.declared.ask.Context.{Context}
@@ -15,7 +17,7 @@ use Rattle.em_log.specs.declared.entry.Event.{Event}
 use Rattle.em_log.specs.declared.ids.Cells.{Cells}
 use Rattle.em_log.specs.declared.work.Move.{Move}
 use Rattle.em_log.specs.Expressions.{Env, value, with_var}
-use Rattle.em_log.specs.Bodies.{ask_of, variable, set_in, event_env}
+use Rattle.em_log.specs.Bodies.{ask_of, variable, set_in, event_env, error_env}
 use Rattle.em_log.specs.Legal.{body_in, plain_env}
 
 -- a block on its way: its statements that are left, and how many times it comes again after them
@@ -29,12 +31,20 @@ pub record Made : Type 0 where
   pub graph : Config
   pub core : ℕ
 
--- where a body stands: its environment, what is left of its blocks, the innermost first, and the statement whose ask is
--- not answered yet
+-- the body that an error body serves: the variable of its refused statement, its environment, and what is left of its blocks
+pub record Outer : Type 0 where
+  pub variable : Option ℕ
+  pub env : Env
+  pub left : List Left
+
+-- where a body stands: its environment, what is left of its blocks, the innermost first, the statement whose ask is not
+-- answered yet, the error body that serves its context, and, in that error body, the body that it serves
 pub record Standing : Type 0 where
   pub env : Env
   pub left : List Left
   pub asking : Option Stmt
+  pub error : Option (List Stmt)
+  pub outer : Option Outer
 
 pub record Run : Type 0 where
   pub made : Made
@@ -75,6 +85,31 @@ abbrev pub chosen : ℕ → List Stmt → List Stmt → List Stmt
 chosen zero yes' no' = no'
 chosen (suc n) yes' no' = yes'
 
+-- error bodies
+
+-- the error body of this fault is begun: its variables are 0, its `ok` is 1, and it has the fault
+abbrev pub serving : Stmt → Fault → List Stmt → Standing → Standing
+serving q f body s =
+    record s {
+      env = error_env f s.env;
+      left = entered body 1 [];
+      asking = None;
+      outer = Some (record { variable = variable q; env = s.env; left = s.left });
+    }
+
+-- after an error body that ends in the environment u: the event and the cells come back, the variable of the statement that
+-- it has served is 0, and so is `ok`
+abbrev pub after_error : Option ℕ → Env → Env → Env
+after_error i v u = set_in i 0 (record v { event = u.event; cells = u.cells; ok = 0 })
+
+abbrev pub settled_by : List Left → Option Outer → Standing → Standing
+settled_by [] (Some o) s = record s { env = after_error o.variable o.env s.env; left = o.left; outer = None }
+settled_by ls o s = s
+
+-- where nothing is left of an error body, the body that it has served goes on
+abbrev pub settled : Standing → Standing
+settled s = settled_by s.left s.outer s
+
 -- moves
 
 -- whether a statement asks: a cell write does so where there are no cells
@@ -91,11 +126,6 @@ nests (Stmt.If' t _ b _ b' _) = true
 nests (Stmt.Repeat' n _ b) = true
 nests s = false
 
--- the statement whose ask a move leaves unanswered
-abbrev pub asking_by : Stmt → Move → Option Stmt
-asking_by s (Move.Ask a) = Some s
-asking_by s m = None
-
 -- what a statement does, from where the body stands with that statement done
 pub data Does (s : Stmt) (was : Standing) (m : Move) (now : Standing) : Type 0 where
   Sets : (i : ℕ) (e : Expr) → s ≡ stmt.Set i e → m ≡ Move.Silent
@@ -109,11 +139,15 @@ pub data Does (s : Stmt) (was : Standing) (m : Move) (now : Standing) : Type 0 w
       → Does s was m now
   Asks : IsTrue (does_ask s was.env) → m ≡ Move.Ask (ask_of s was.env) → now ≡ record was { asking = Some s } → Does s was m now
 
--- a move of a body: its end where no statement is left, or what the next statement does
-pub data Moves (f : Made) (was : Standing) (m : Move) (now : Standing) : Type 0 where
-  Ends : was.asking ≡ None → was.left ≡ [] → m ≡ Move.End → now ≡ was → Moves f was m now
+-- a step from where the body stands: its end where no statement is left, or what the next statement does
+pub data Steps (was : Standing) (m : Move) (now : Standing) : Type 0 where
+  Ends : was.asking ≡ None → was.left ≡ [] → m ≡ Move.End → now ≡ was → Steps was m now
   Goes : (s : Stmt) → was.asking ≡ None → first_of was.left ≡ Some s
-      → Does s (record was { left = after_first was.left }) m now → Moves f was m now
+      → Does s (record was { left = after_first was.left }) m now → Steps was m now
+
+-- a move of a body: an error body of which nothing is left gives way first
+abbrev pub Moves : Made → Standing → Move → Standing → Type 0
+Moves f was m now = Steps (settled was) m now
 
 -- the ask that is not answered yet
 abbrev pub unanswered : Standing → Option Ask
@@ -139,13 +173,22 @@ answered s Answer.Nothing v = record (set_in (variable s) 0 v) { ok = 1 }
 answered s Answer.Done v = record (done s v) { ok = 1 }
 answered s x v = v
 
-abbrev pub left_by : Option Stmt → Answer → Env → Env
-left_by None x v = v
-left_by (Some s) x v = answered s x v
+-- a fault runs an error body at once, where there is one, and none inside an error body
+abbrev pub refused : Option (List Stmt) → Option Outer → Stmt → Fault → Standing → Standing
+refused (Some body) None q f s = serving q f body s
+refused error outer q f s = record s { env = answered q (Answer.Refused f) s.env; asking = None }
+
+abbrev pub replied : Stmt → Answer → Standing → Standing
+replied q (Answer.Refused f) s = refused s.error s.outer q f s
+replied q x s = record s { env = answered q x s.env; asking = None }
+
+abbrev pub left_by : Option Stmt → Answer → Standing → Standing
+left_by None x s = record s { asking = None }
+left_by (Some q) x s = replied q x s
 
 -- the state that an answer leaves
 abbrev pub Leaves : Made → Standing → Answer → Standing → Type 0
-Leaves f was x now = now ≡ record { env = left_by was.asking x was.env; left = was.left; asking = None }
+Leaves f was x now = now ≡ left_by was.asking x was
 
 -- beginnings
 
@@ -167,9 +210,17 @@ object_of (Context.LocalStart op x) = Some x.0
 object_of (Context.LocalStop op x) = Some x.0
 object_of (Context.GlobalStop op x) = Some x.0
 
+-- that object, as the graph declares it
+abbrev pub declared_object : Config → Context → Option EoDecl
+declared_object g c = option_and_then (slice_get g.eos) (object_of c)
+
 -- the body of a context: none where the graph does not declare its object
 abbrev pub body_of : Config → Context → List Stmt
-body_of g c = body_in g (option_and_then (slice_get g.eos) (object_of c)) (Some (entry_of c))
+body_of g c = body_in g (declared_object g c) (Some (entry_of c))
+
+-- the error body that serves a context: that of its object, else the global one
+abbrev pub error_body_of : Config → Context → Option (List Stmt)
+error_body_of g c = option_or (option_and_then (λ d. d.error) (declared_object g c)) g.error
 
 abbrev pub received : ℕ → Receive → Env
 received core r =
@@ -186,7 +237,14 @@ opening core (Context.Receive r) = received core r
 opening core c = plain_env core
 
 abbrev pub begun : Made → Context → Standing
-begun f c = record { env = opening f.core c; left = entered (body_of f.graph c) 1 []; asking = None }
+begun f c =
+    record {
+      env = opening f.core c;
+      left = entered (body_of f.graph c) 1 [];
+      asking = None;
+      error = error_body_of f.graph c;
+      outer = None;
+    }
 
 abbrev pub Begins : Made → Context → Standing → Type 0
 Begins f c s = s ≡ begun f c

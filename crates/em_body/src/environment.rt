@@ -2,12 +2,14 @@
 ghost use Rattle.std.specs.Prelude.{◌≡◌, Some, ◌%◌, slice_set, map};
 ghost use Rattle.std.specs.Option.{option_map};
 ghost use Rattle.em_log.specs.Expressions.{with_var};
-ghost use Rattle.em_log.specs.Bodies.{set_in, variable};
+ghost use Rattle.em_log.specs.Bodies.{set_in, variable, error_env};
 ghost use Rattle.em_log.specs.Legal.{plain_env};
 
+use crate::faults::{detail_of, number_of};
 use em_log::ask::{Answer, Context, Receive};
 use em_log::body::Stmt;
 use em_log::entry::Event;
+use em_log::fault::Fault;
 use em_log::ids::{Cells, CoreId, QueueId};
 use em_log::lists::Words;
 
@@ -28,9 +30,21 @@ pub struct Environment {
     pub detail: u64,
 }
 
+/// The variable that a statement's answer sets, if it does.
+pub fn variable_of(s: &Stmt) -> Option<u8>
+    ensures { result ≡ variable s.now }
+{
+    match s {
+        Stmt::Alloc { v, .. } => Some(*v),
+        Stmt::Claim { v } => Some(*v),
+        Stmt::Dequeue { v, .. } => Some(*v),
+        _ => None,
+    }
+}
+
 impl Environment {
     ghost use Rattle.em_body.specs.Environments.{env_of, with_event};
-    ghost use Rattle.em_body.specs.Standings.{minted, done, answered, opening, received};
+    ghost use Rattle.em_body.specs.Standings.{minted, done, answered, after_error, opening, received};
 
     /// An environment without an event.
     pub fn plain(core: CoreId) -> Self
@@ -90,15 +104,12 @@ impl Environment {
         }
     }
 
-    /// Sets the statement's variable, if it has one.
-    fn set_of(&mut self, s: &Stmt, value: u64)
-        ensures { env_of self.new ≡ set_in (variable s.now) value (env_of self.old) }
+    /// Sets this variable, if it is one.
+    fn set_in(&mut self, variable: Option<u8>, value: u64)
+        ensures { env_of self.new ≡ set_in variable value (env_of self.old) }
     {
-        match s {
-            Stmt::Alloc { v, .. } => self.set(*v, value),
-            Stmt::Claim { v } => self.set(*v, value),
-            Stmt::Dequeue { v, .. } => self.set(*v, value),
-            _ => {}
+        if let Some(v) = variable {
+            self.set(v, value);
         }
     }
 
@@ -117,7 +128,7 @@ impl Environment {
             Stmt::Alloc { v, .. } => self.set(*v, event.handle.0),
             _ => {
                 self.bring(event);
-                self.set_of(s, event.handle.0);
+                self.set_in(variable_of(s), event.handle.0);
             }
         }
     }
@@ -131,21 +142,54 @@ impl Environment {
         }
     }
 
+    /// After a refused ask, whose statement has this variable.
+    pub fn refused(&mut self, variable: Option<u8>)
+        ensures { env_of self.new ≡ set_in variable 0 (record (env_of self.old) { ok = 0 }) }
+    {
+        self.ok = false;
+        self.set_in(variable, 0);
+    }
+
+    /// The environment in which the error body of this fault begins.
+    pub fn in_error(&self, fault: Fault) -> Self
+        ensures { env_of result ≡ error_env fault (env_of self.now) }
+    {
+        Environment {
+            variables: [0; 16],
+            kind: self.kind,
+            words: self.words.copy(),
+            me: self.me,
+            queue: self.queue,
+            core: self.core,
+            cells: self.cells,
+            ok: true,
+            fault: number_of(fault),
+            detail: detail_of(fault),
+        }
+    }
+
+    /// The same after the error body that has served the fault, and has ended in this environment.
+    pub fn served(&mut self, variable: Option<u8>, error: &Environment)
+        ensures { env_of self.new ≡ after_error variable (env_of self.old) (env_of error.now) }
+    {
+        self.kind = error.kind;
+        self.words = error.words.copy();
+        self.cells = error.cells;
+        self.refused(variable);
+    }
+
     /// What the answer to this statement's ask leaves.
     pub fn answered(&mut self, s: &Stmt, answer: &Answer)
         ensures { env_of self.new ≡ answered s.now answer.now (env_of self.old) }
     {
         match answer {
-            Answer::Refused(_) => {
-                self.ok = false;
-                self.set_of(s, 0);
-            }
+            Answer::Refused(_) => self.refused(variable_of(s)),
             Answer::Minted(event) => {
                 self.mint(s, event);
                 self.ok = true;
             }
             Answer::Nothing => {
-                self.set_of(s, 0);
+                self.set_in(variable_of(s), 0);
                 self.ok = true;
             }
             Answer::Done => {

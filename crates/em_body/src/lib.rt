@@ -3,8 +3,10 @@
 
 mod asks;
 mod environment;
+mod faults;
 pub mod run;
 mod stack;
+mod standing;
 mod values;
 
 ghost use Rattle.em_body.specs.AskLaws.{AsksAreOfStatements, AsksMayStand, CellsComeWithContexts};
@@ -40,8 +42,8 @@ pub fn leads_are_read()
     ensures { LeadsAreRead }
 {}
 
-/// In each state that a context reaches, an unanswered ask is that of a statement of the context's body, which asks in
-/// the environment of that state: a test that all statements of the body pass is passed by this one.
+/// In each state that a context reaches, an unanswered ask is that of a statement of the context's body or of the error body
+/// that serves it, which asks in the environment of that state: a test that all statements of both pass is passed by this one.
 pub fn asks_are_of_statements()
     ensures { AsksAreOfStatements }
 {}

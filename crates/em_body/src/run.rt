@@ -1,83 +1,55 @@
 //! A body that runs.
-ghost use Rattle.std.specs.Prelude.{◌≡◌, ◌<◌, IsTrue, length, None};
-ghost use Rattle.em_body.specs.Environments.{env_of};
-ghost use Rattle.em_body.specs.Standings.{Does, is_small, nests, asking_by, body_of as body_by, chosen as branch_of};
+ghost use Rattle.std.specs.Prelude.{◌≡◌};
+ghost use Rattle.std.specs.Option.{option_copied};
+ghost use Rattle.em_body.specs.Standings.{declared_object, body_of as body_by, error_body_of as error_body_by};
 
-use crate::asks::ask_of;
 use crate::environment::Environment;
-use crate::stack::Stack;
-use crate::values::value;
+use crate::standing::Standing;
 use em_log::ask::{Answer, Context};
-use em_log::body::Stmt;
-use em_log::graph::Config;
+use em_log::body::{Block, Stmt};
+use em_log::graph::{Config, EoDecl};
 use em_log::ids::{Cells, CoreId};
 use em_log::work::{Move, Work};
 use std::marker::Model;
+
+/// The object that a context is of, as the graph declares it.
+fn object_of<'a>(config: &'a Config, context: &Context) -> Option<&'a EoDecl>
+    ensures { option_copied result ≡ declared_object config.now context.now }
+{
+    let x = match context {
+        Context::Boot => return None,
+        Context::Receive(receive) => receive.eo,
+        Context::GlobalStart(_, x)
+        | Context::LocalStart(_, x)
+        | Context::LocalStop(_, x)
+        | Context::GlobalStop(_, x) => *x,
+    };
+    config.eos.as_slice().get(x.0 as usize)
+}
 
 /// The body of a context.
 fn body_of<'a>(config: &'a Config, context: &Context) -> &'a [Stmt]
     ensures { result.now ≡ body_by config.now context.now }
 {
-    match context {
-        Context::Boot => config.boot.as_slice(),
-        Context::Receive(receive) => match config.eos.as_slice().get(receive.eo.0 as usize) {
-            Some(eo) => eo.receive.as_slice(),
-            None => &[],
-        },
-        Context::GlobalStart(_, x) => match config.eos.as_slice().get(x.0 as usize) {
-            Some(eo) => eo.start.as_slice(),
-            None => &[],
-        },
-        Context::LocalStart(_, x) => match config.eos.as_slice().get(x.0 as usize) {
-            Some(eo) => eo.lstart.as_slice(),
-            None => &[],
-        },
-        Context::LocalStop(_, x) => match config.eos.as_slice().get(x.0 as usize) {
-            Some(eo) => eo.lstop.as_slice(),
-            None => &[],
-        },
-        Context::GlobalStop(_, x) => match config.eos.as_slice().get(x.0 as usize) {
-            Some(eo) => eo.stop.as_slice(),
-            None => &[],
-        },
+    let object = object_of(config, context);
+    match (context, object) {
+        (Context::Boot, _) => config.boot.as_slice(),
+        (_, None) => &[],
+        (Context::Receive(_), Some(eo)) => eo.receive.as_slice(),
+        (Context::GlobalStart(_, _), Some(eo)) => eo.start.as_slice(),
+        (Context::LocalStart(_, _), Some(eo)) => eo.lstart.as_slice(),
+        (Context::LocalStop(_, _), Some(eo)) => eo.lstop.as_slice(),
+        (Context::GlobalStop(_, _), Some(eo)) => eo.stop.as_slice(),
     }
 }
 
-fn chosen<'a>(test: u64, yes: &'a [Stmt], no: &'a [Stmt]) -> &'a [Stmt]
-    ensures { result.now ≡ branch_of test yes.now no.now }
+/// The error body that serves a context: that of its object, else the global one.
+fn error_body_of<'a>(config: &'a Config, context: &Context) -> Option<&'a Block>
+    ensures { option_copied result ≡ error_body_by config.now context.now }
 {
-    if test == 0 { no } else { yes }
-}
-
-/// Carries out a statement: its move.
-fn carry_out<'a>(s: &'a Stmt, environment: &mut Environment, stack: &mut Stack<'a>) -> Move
-    requires small { IsTrue (is_small s.now) }
-    requires room { IsTrue (nests s.now) → length stack.old < 17 }
-    ensures { Does s.now (record { env = env_of environment.old; left = stack.old; asking = None }) result
-        (record { env = env_of environment.new; left = stack.new; asking = asking_by s.now result }) }
-{
-    match s {
-        Stmt::Set { v, value: e } => {
-            let n = value(e, environment);
-            environment.set(*v, n);
-            Move::Silent
-        }
-        Stmt::If { test, yes, no, .. } => {
-            let block = chosen(value(test, environment), yes.as_slice(), no.as_slice());
-            stack.enter(block, 1);
-            Move::Silent
-        }
-        Stmt::Repeat { times, block } => {
-            stack.enter(block.as_slice(), *times);
-            Move::Silent
-        }
-        Stmt::CellWrite { cell, value: e } if environment.cells.is_some() => {
-            let cell = value(cell, environment);
-            let n = value(e, environment);
-            environment.write(cell, n);
-            Move::Silent
-        }
-        _ => Move::Ask(ask_of(s, environment)),
+    match object_of(config, context) {
+        Some(eo) if eo.error.is_some() => eo.error.as_ref(),
+        _ => config.error.as_ref(),
     }
 }
 
@@ -86,17 +58,14 @@ fn carry_out<'a>(s: &'a Stmt, environment: &mut Environment, stack: &mut Stack<'
 pub struct BodyRun<'a> {
     config: &'a Config,
     core: CoreId,
-    environment: Environment,
-    stack: Stack<'a>,
-    asking: Option<&'a Stmt>,
+    standing: Standing<'a>,
 }
 
 impl<'a> Model for BodyRun<'a> {
-    ghost use Rattle.std.specs.Option.{option_copied};
     ghost use Rattle.std.specs.Coded.{codes};
     ghost use Rattle.em_log.specs.contracts.body.Stmt as stmt;
     ghost use Rattle.em_log.specs.contracts.graph.Config as graph;
-    ghost use Rattle.em_body.specs.Environments.{env_of};
+    ghost use Rattle.em_body.specs.Kept.{standing_of};
     ghost use Rattle.em_body.specs.Standings.{Run};
     ghost use Rattle.em_body.specs.Runs.{IsSound};
 
@@ -106,10 +75,10 @@ impl<'a> Model for BodyRun<'a> {
 
     ghost view = { λ r. record {
       made = record { graph = r.config.now; core = r.core.0 };
-      standing = record { env = env_of r.environment; left = r.stack; asking = option_copied r.asking };
+      standing = standing_of r.standing;
     } };
 
-    ghost invariant = { λ r. IsSound r.config.now r.stack };
+    ghost invariant = { λ r. IsSound r.config.now (standing_of r.standing) };
 }
 
 impl<'a> BodyRun<'a> {
@@ -121,14 +90,12 @@ impl<'a> BodyRun<'a> {
     pub fn new(config: &'a Config, core: CoreId) -> BodyRun<'a>
         requires { IsWellFormed config.now }
         ensures made { result.made ≡ record { graph = config.now; core = core.0 } }
-        ensures standing { result.standing ≡ record { env = plain_env core.0; left = []; asking = None } }
+        ensures standing { result.standing ≡ record { env = plain_env core.0; left = []; asking = None; error = None; outer = None } }
     {
         BodyRun {
             config,
             core,
-            environment: Environment::plain(core),
-            stack: Stack::new(),
-            asking: None,
+            standing: Standing::new(Environment::plain(core)),
         }
     }
 }
@@ -164,32 +131,26 @@ impl<'a> Work for BodyRun<'a> {
     ghost leaves_unasked = { laws.leaves-unasked };
 
     fn begin(&mut self, context: &Context) {
-        self.environment = Environment::opening(self.core, context);
-        self.stack.clear();
-        self.stack.enter(body_of(self.config, context), 1);
-        self.asking = None;
+        let environment = Environment::opening(self.core, context);
+        let body = body_of(self.config, context);
+        let error = error_body_of(self.config, context);
+        self.standing.begin(environment, body, error);
     }
 
     fn next(&mut self) -> Move {
-        let Some(statement) = self.stack.take() else {
+        self.standing.settle();
+        let Some(statement) = self.standing.stack.take() else {
             return Move::End;
         };
-        let made = carry_out(statement, &mut self.environment, &mut self.stack);
-        if let Move::Ask(_) = &made {
-            self.asking = Some(statement);
-        }
-        made
+        self.standing.carry_out(statement)
     }
 
     fn answer(&mut self, answer: &Answer) {
-        if let Some(statement) = self.asking {
-            self.environment.answered(statement, answer);
-            self.asking = None;
-        }
+        self.standing.answered(answer);
     }
 
     fn cells(&self) -> Option<Cells> {
-        self.environment.cells
+        self.standing.environment.cells
     }
 }
 

@@ -1,5 +1,5 @@
 //! What is left of a body's blocks.
-ghost use Rattle.std.specs.Prelude.{◌≡◌, ◌<◌, [], length};
+ghost use Rattle.std.specs.Prelude.{◌≡◌, ◌<◌, ◌==◌, [], length};
 ghost use Rattle.std.specs.Option.{option_copied};
 ghost use Rattle.em_body.specs.Standings.{entered, resumed, first_of, after_first};
 
@@ -50,6 +50,12 @@ impl<'a> Stack<'a> {
         ensures { self.new ≡ [] }
     {
         self.frames.clear();
+    }
+
+    pub fn is_empty(&self) -> bool
+        ensures { result ≡ (length self.now == 0) }
+    {
+        self.frames.is_empty()
     }
 
     /// Begins a block, which comes so many times.

@@ -22,8 +22,9 @@ use Rattle.em_core.specs.declared.core_run.Step.{Step}
 use Rattle.em_core.specs.Pieces.{Piece, begun_by, open_context, exchanges}
 use Rattle.em_core.specs.Stands.{IsAt, IsOver, IsAtStage}
 use Rattle.em_body.specs.contracts.run.BodyRunWork.TheImpl.{ghosts}
-use Rattle.em_body.specs.Standings.{Made, Run, Standing, Moves, Ends, Goes, Sets, Branches, Repeats, Writes, Asks, entry_of, carried}
+use Rattle.em_body.specs.Standings.{Made, Run, Standing, Steps, Ends, Goes, settled, Sets, Branches, Repeats, Writes, Asks, entry_of, carried}
 use Rattle.em_body.proofs.AsksStand.{asks-stand}
+use Rattle.em_body.proofs.Settled.{settled-cells}
 use Rattle.em_desk.specs.State.{DeskState}
 use Rattle.em_desk.specs.Served.{served}
 use Rattle.em_drive.specs.Going.{IsGoing, IsAwaiting}
@@ -84,13 +85,13 @@ pub record WorkEnds (g : Config) (desk : DeskState) (c : ℕ) (run : CoreRun Run
   pub hold : is_some (holds (declarations_of g) desk.past c) ≡ is_some cells
 
 -- the end of a body changes nothing
-end-same : (f : Made) (was now : Standing) → Moves f was Move.End now → now ≡ was
-end-same f was now (Ends none empty is same) = same
-end-same f was now (Goes s none first (Sets i e is silent new)) = absurd cc
-end-same f was now (Goes s none first (Branches t yes' no' has_else is silent new)) = absurd cc
-end-same f was now (Goes s none first (Repeats n block is silent new)) = absurd cc
-end-same f was now (Goes s none first (Writes c e cells is some silent new)) = absurd cc
-end-same f was now (Goes s none first (Asks does is new)) = absurd cc
+end-same : (was now : Standing) → Steps was Move.End now → now ≡ was
+end-same was now (Ends none empty is same) = same
+end-same was now (Goes s none first (Sets i e is silent new)) = absurd cc
+end-same was now (Goes s none first (Branches t yes' no' has_else is silent new)) = absurd cc
+end-same was now (Goes s none first (Repeats n block is silent new)) = absurd cc
+end-same was now (Goes s none first (Writes c e cells is some silent new)) = absurd cc
+end-same was now (Goes s none first (Asks does is new)) = absurd cc
 
 abbrev cells_of : Option (List ℕ) → Option Cells
 cells_of o = option_map (λ (cs : List ℕ). record { 0 = cs }) o
@@ -108,7 +109,7 @@ work-ends g l desk c run going cells is =
     subst (λ (s : Stage). IsAtStage ghosts f (open_context m) (exchanges m) (ghosts.state run.work) s) is going.stands.stage in
     let reading : IsReading g desk.past c over.context (exchanges m) (asked_entries m) =
     subst (λ (o : Option Context). IsCurrent g desk.past c o (exchanges m) (asked_entries m)) over.is_open going.current in
-    let carries : cells ≡ carried over.was = over.carried ∙ ap carried (end-same f over.was (ghosts.state run.work) over.ends) in
+    let carries : cells ≡ carried over.was = over.carried ∙ ap carried (end-same (settled over.was) (ghosts.state run.work) over.ends) ∙ ap cells_of (settled-cells over.was) in
     record {
       over = over;
       reading = reading;

@@ -25,7 +25,8 @@ use Rattle.em_core.specs.Pieces.{AreTail, is_tail}
 use Rattle.em_core.proofs.Histories as histories
 use Rattle.em_cores.proofs.Holding.{has_hold}
 use Rattle.em_body.specs.Followed.{IsReached}
-use Rattle.em_body.specs.Standings.{Made, Standing, Does, Sets, Branches, Repeats, Writes, Asks, Moves, Ends, Goes, after_first, minted, done, answered, left_by}
+use Rattle.em_body.specs.Standings.{Made, Outer, Standing, Does, Sets, Branches, Repeats, Writes, Asks, Steps, Ends, Goes, Moves, after_first, settled, minted, done, answered, refused, replied, left_by}
+use Rattle.em_body.proofs.Settled.{settled-cells}
 use Rattle.em_drive.specs.Readings.{keeps_cells, has_cells}
 
 -- in the body
@@ -67,14 +68,31 @@ does-cells s was m now (Repeats n block is silent new) = ap (λ t. has_some t.en
 does-cells s was m now (Writes c e cells is some silent new) = ap (λ t. has_some t.env) new ∙ sym (ap (λ (o : Option (List ℕ)). is_some o) some)
 does-cells s was m now (Asks does is new) = ap (λ t. has_some t.env) new
 
-moves-cells : (f : Made) (was : Standing) (m : Move) (now : Standing) → Moves f was m now → has_some now.env ≡ has_some was.env
-moves-cells f was m now (Ends none empty is same) = ap (λ t. has_some t.env) same
-moves-cells f was m now (Goes s none first does) = does-cells s (record was { left = after_first was.left }) m now does
+steps-cells : (was : Standing) (m : Move) (now : Standing) → Steps was m now → has_some now.env ≡ has_some was.env
+steps-cells was m now (Ends none empty is same) = ap (λ t. has_some t.env) same
+steps-cells was m now (Goes s none first does) = does-cells s (record was { left = after_first was.left }) m now does
 
-left-cells : (o : Option Stmt) (a : Ask) (x : Answer) (v : Env) → option_map (λ q. ask_of q v) o ≡ Some a
-    → has_some (left_by o x v) ≡ keeps_cells a x (has_some v)
-left-cells None a x v is = absurd cc
-left-cells (Some s) a x v is = let same : ask_of s v ≡ a = cc is in answered-cells s x v ∙ ap (λ (b : Ask). keeps_cells b x (has_some v)) same
+moves-cells : (f : Made) (was : Standing) (m : Move) (now : Standing) → Moves f was m now → has_some now.env ≡ has_some was.env
+moves-cells f was m now moves =
+    steps-cells (settled was) m now moves ∙ ap (λ (o : Option (List ℕ)). is_some o) (settled-cells was)
+
+-- an error body begins with the cells
+refused-cells : (error : Option (List Stmt)) (outer : Option Outer) (s : Stmt) (f : Fault) (was : Standing)
+    → has_some (refused error outer s f was).env ≡ has_some was.env
+refused-cells (Some body) None s f was = refl
+refused-cells (Some body) (Some o) s f was = set-cells (variable s) 0 (record was.env { ok = 0 })
+refused-cells None outer s f was = set-cells (variable s) 0 (record was.env { ok = 0 })
+
+replied-cells : (s : Stmt) (x : Answer) (was : Standing) → has_some (replied s x was).env ≡ keeps_cells (ask_of s was.env) x (has_some was.env)
+replied-cells s (Answer.Refused f) was =
+    refused-cells was.error was.outer s f was ∙ sym (keeps-other (ask_of s was.env) (Answer.Refused f) (has_some was.env) refl)
+replied-cells s x was = answered-cells s x was.env
+
+left-cells : (o : Option Stmt) (a : Ask) (x : Answer) (was : Standing) → option_map (λ q. ask_of q was.env) o ≡ Some a
+    → has_some (left_by o x was).env ≡ keeps_cells a x (has_some was.env)
+left-cells None a x was is = absurd cc
+left-cells (Some s) a x was is =
+    let same : ask_of s was.env ≡ a = cc is in replied-cells s x was ∙ ap (λ (b : Ask). keeps_cells b x (has_some was.env)) same
 
 -- the environment of each state that a context reaches has cells exactly where its asks have left them
 pub reached-cells : (f : Made) (context : Context) (es : List Exchange) (s : Standing) → IsReached f context es s → has_some s.env ≡ has_cells f.core context es
@@ -83,7 +101,7 @@ reached-cells f context es s (Reached.Begun _ _ empty begins) =
 reached-cells f context es s (Reached.Silent _ was _ before moves) = moves-cells f was Move.Silent s moves ∙ reached-cells f context es was before
 reached-cells f context es s (Reached.Asked _ was _ a before moves) = moves-cells f was (Move.Ask a) s moves ∙ reached-cells f context es was before
 reached-cells f context es s (Reached.Answered _ past was _ a x before some fits leaves is) =
-    ap (λ t. has_some t.env) leaves ∙ left-cells was.asking a x was.env some
+    ap (λ t. has_some t.env) leaves ∙ left-cells was.asking a x was some
     ∙ ap (keeps_cells a x) (reached-cells f context past was before) ∙ sym (ap (has_cells f.core context) is)
 
 -- in the history

@@ -1,9 +1,7 @@
 -- What holds after the end of a context.
-use Rattle.std.proofs.Common.{◌≡◌, ◌≢◌, ℕ, zero, suc, Bool, List, [], ◌∷◌, length, Option, Some, None, refl, sym, ap, ◌∙◌, subst}
-use Rattle.std.specs.Prelude.{IsTrue, is_none, slice_get}
-use Rattle.std.specs.List.{list_all}
+use Rattle.std.proofs.Common.{◌≡◌, ◌≢◌, ℕ, List, [], ◌∷◌, length, Option, Some, None, refl, sym, ap, ◌∙◌, subst}
+use Rattle.std.specs.Prelude.{slice_get}
 use Rattle.std.specs.Option.{option_map, option_or, option_and_then}
-use Rattle.std.proofs.lemmas.Bool.{and_parts}
 use Rattle.em_log.specs.declared.body.Stmt.{Stmt}
 use Rattle.em_log.specs.declared.graph.Config.{Config}
 use Rattle.em_log.specs.declared.graph.EoDecl.{EoDecl}
@@ -27,39 +25,13 @@ use Rattle.em_core.specs.Stands.{IsAt, IsOver}
 use Rattle.em_core.proofs.Histories as histories
 use Rattle.em_body.specs.contracts.run.BodyRunWork.TheImpl.{ghosts}
 use Rattle.em_body.specs.Standings as work
-use Rattle.em_body.specs.Standings.{Made, Standing, Does, Sets, Branches, Repeats, Writes, Asks, Moves, Ends, Goes}
+use Rattle.em_body.specs.Standings.{Made, Standing, Does, Sets, Branches, Repeats, Writes, Asks, Steps, Ends, Goes, settled}
 use Rattle.em_body.specs.Followed.{IsFollowed}
 use Rattle.em_body.specs.Followed as body
 use Rattle.em_body.proofs.Reaching.{followed}
+use Rattle.em_body.proofs.Settled.{settled-asking}
 use Rattle.em_drive.specs.Readings.{IsReading}
 use Rattle.em_drive.proofs.Asked.{follows-tail, keeps-context, keeps-ended, tail-keeps}
-
--- no error body
-
--- the object has no error body of its own
-abbrev pub has_no_error : EoDecl → Bool
-has_no_error d = is_none d.error
-
-none-is : {A : Type 0} (o : Option A) → IsTrue (is_none o) → o ≡ None
-none-is None is = refl
-none-is (Some x) is = absurd cc
-
-got-no_error : (ds : List EoDecl) (n : ℕ) → IsTrue (list_all has_no_error ds)
-    → option_and_then (λ (d : EoDecl). d.error) (slice_get ds n) ≡ None
-got-no_error [] n all = refl
-got-no_error (d ∷ ds) zero all = none-is d.error (and_parts (has_no_error d) (list_all has_no_error ds) all).0
-got-no_error (d ∷ ds) (suc n) all = got-no_error ds n (and_parts (has_no_error d) (list_all has_no_error ds) all).1
-
-object-no_error : (ds : List EoDecl) (o : Option ℕ) → IsTrue (list_all has_no_error ds)
-    → option_and_then (λ (d : EoDecl). d.error) (option_and_then (slice_get ds) o) ≡ None
-object-no_error ds None all = refl
-object-no_error ds (Some n) all = got-no_error ds n all
-
--- where neither the graph nor an object of it has an error body, none serves a fault
-pub no_error-body : (g : Config) (past : Past) (c : ℕ) → g.error ≡ None → IsTrue (list_all (λ d. is_none d.error) g.eos)
-    → error_body_of g past c ≡ None
-no_error-body g past c none all =
-    ap (λ o. option_or o g.error) (object-no_error g.eos (log.context_object (declarations_of g) past c) all) ∙ none
 
 -- followed
 
@@ -79,22 +51,28 @@ reading-body g past c told es ws r =
     ap (λ (o : Option What). body_in g (declared_object g past c) o) begun
     ∙ ap (λ (o : Option ℕ). body_in g (option_and_then (slice_get g.eos) o) (Some (work.entry_of told))) r.object
 
+-- so is the error body that serves it
+reading-error : (g : Config) (past : Past) (c : ℕ) (told : Context) (es : List Exchange) (ws : List What)
+    → IsReading g past c told es ws → error_body_of g past c ≡ work.error_body_of g told
+reading-error g past c told es ws r =
+    ap (λ (o : Option ℕ). option_or (option_and_then (λ (d : EoDecl). d.error) (option_and_then (slice_get g.eos) o)) g.error) r.object
+
 -- the history's reading of the body is that of the body's own laws
 reading-same : (g : Config) (past : Past) (c : ℕ) (told : Context) (es : List Exchange) (ws : List What)
-    → IsReading g past c told es ws → error_body_of g past c ≡ None
-    → reading g past c ≡ body.reading (record { graph = g; core = c }) told ws
-reading-same g past c told es ws r none =
+    → IsReading g past c told es ws → reading g past c ≡ body.reading (record { graph = g; core = c }) told ws
+reading-same g past c told es ws r =
+    let s = reading-error g past c told es ws r in
     let b = reading-body g past c told es ws r in
     let f = r.first in
     let e = r.entries in
-    rw (none, b, f, e) refl
+    rw (s, b, f, e) refl
 
 followed-so_far : (g : Config) (past : Past) (c : ℕ) (told : Context) (es : List Exchange) (ws : List What) (s : Standing)
-    → IsReading g past c told es ws → error_body_of g past c ≡ None → IsFollowed (record { graph = g; core = c }) told es ws s
+    → IsReading g past c told es ws → IsFollowed (record { graph = g; core = c }) told es ws s
     → FollowsSoFar g past c
-followed-so_far g past c told es ws s r none f =
+followed-so_far g past c told es ws s r f =
     let k = declarations_of g in
-    let same = reading-same g past c told es ws r none in
+    let same = reading-same g past c told es ws r in
     record {
       all = ap (λ (x : Reading). x.rest) same ∙ f.rest;
       leads = subst (λ ps. AreLeads k c ps (leads k past c)) (sym (ap (λ (x : Reading). x.pairs) same ∙ f.pairs)) r.each;
@@ -102,19 +80,19 @@ followed-so_far g past c told es ws s r none f =
 
 -- a context has followed its body to each state that it reaches
 pub so_far-follows : (g : Config) (past : Past) (c : ℕ) (told : Context) (es : List Exchange) (ws : List What) (s : Standing)
-    → IsReading g past c told es ws → error_body_of g past c ≡ None
+    → IsReading g past c told es ws
     → body.IsReached (record { graph = g; core = c }) told es s → FollowsSoFar g past c
-so_far-follows g past c told es ws s r none reached =
-    followed-so_far g past c told es ws s r none (followed (record { graph = g; core = c }) told es s reached ws r.read)
+so_far-follows g past c told es ws s r reached =
+    followed-so_far g past c told es ws s r (followed (record { graph = g; core = c }) told es s reached ws r.read)
 
 told-same : (x y : Context) → Some x ≡ Some y → x ≡ y
 told-same x y same = cc
 
 pub so-far : (g : Config) (past : Past) (c : ℕ) (told : Context) (es : List Exchange) (ws : List What) (now : Standing) (n : ℕ)
-    → IsReading g past c told es ws → error_body_of g past c ≡ None
+    → IsReading g past c told es ws
     → IsAt ghosts (record { graph = g; core = c }) (Some told) es now n → FollowsSoFar g past c
-so-far g past c told es ws now n r none at =
-    so_far-follows g past c told es ws now r none
+so-far g past c told es ws now n r at =
+    so_far-follows g past c told es ws now r
     (subst (λ x. body.IsReached (record { graph = g; core = c }) x es now) (sym (told-same told at.context at.is_open)) at.reached)
 
 -- the end
@@ -126,10 +104,10 @@ does-no_end q was now m (Repeats n block is same new) ends = cc
 does-no_end q was now m (Writes i e cells is some same new) ends = cc
 does-no_end q was now m (Asks does same new) ends = cc
 
-moves-end : (f : Made) (was now : Standing) (m : Move) → Moves f was m now → m ≡ Move.End
+moves-end : (was now : Standing) (m : Move) → Steps was m now → m ≡ Move.End
     → (was.asking ≡ None) × (was.left ≡ []) × (now ≡ was)
-moves-end f was now m (Ends none empty is same) ends = (none, empty, same)
-moves-end f was now m (Goes q none first does) ends = absurd (does-no_end q _ now m does ends)
+moves-end was now m (Ends none empty is same) ends = (none, empty, same)
+moves-end was now m (Goes q none first does) ends = absurd (does-no_end q _ now m does ends)
 
 cells-carried : (o : Option (List ℕ)) → cells_in (option_map (λ cs. record { 0 = cs }) o) ≡ o
 cells-carried None = refl
@@ -137,22 +115,22 @@ cells-carried (Some cs) = refl
 
 -- at its end a context has followed its body to the end
 pub ended-follows : (g : Config) (past : Past) (c : ℕ) (told : Context) (es : List Exchange) (ws : List What) (now : Standing) (cells : Option Cells)
-    → IsReading g past c told es ws → error_body_of g past c ≡ None
+    → IsReading g past c told es ws
     → IsOver ghosts (record { graph = g; core = c }) (Some told) es now cells → FollowsToEnd g past c cells
-ended-follows g past c told es ws now cells r none over =
+ended-follows g past c told es ws now cells r over =
     let f : Made = record { graph = g; core = c } in
     let was : Standing = over.was in
     let reached : body.IsReached f told es was =
     subst (λ x. body.IsReached f x es was) (sym (told-same told over.context over.is_open)) over.reached in
     let all = followed f told es was reached ws r.read in
-    let at_end = moves-end f was now Move.End over.ends refl in
-    let same = reading-same g past c told es ws r none in
+    let at_end = moves-end (settled was) now Move.End over.ends refl in
+    let same = reading-same g past c told es ws r in
     record {
-      so_far = followed-so_far g past c told es ws was r none all;
+      so_far = followed-so_far g past c told es ws was r all;
       over = (
-        was.env,
-        ap (λ (x : Reading). x.env) same ∙ all.over at_end.0 at_end.1,
-        ap cells_in (over.carried ∙ ap work.carried at_end.2) ∙ cells-carried was.env.cells,
+        (settled was).env,
+        ap (λ (x : Reading). x.env) same ∙ all.over (sym (settled-asking was) ∙ at_end.0) at_end.1,
+        ap cells_in (over.carried ∙ ap work.carried at_end.2) ∙ cells-carried (settled was).env.cells,
       );
     }
 

@@ -39,7 +39,7 @@ use Rattle.em_drive.specs.Readings.{IsCurrent, asked_entries}
 use Rattle.em_drive.proofs.Answered.{ask-handles}
 use Rattle.em_drive.proofs.Asked.{asked-reading, ended-kept}
 use Rattle.em_drive.proofs.Asking.{WorkAsks, work-asks, work-ends}
-use Rattle.em_drive.proofs.Ended.{no_error-body, ended-follows, ended-all, ended-context}
+use Rattle.em_drive.proofs.Ended.{ended-follows, ended-all, ended-context}
 use Rattle.em_drive.proofs.Taking.{Told, lawful-of}
 use Rattle.em_drive.proofs.Took.{block-grows, block-grown}
 use Rattle.em_drive.proofs.Waiting.{IsAsking, Working, Ending, asking}
@@ -90,10 +90,9 @@ goes-on g l desk c run going a lawful allowed (Ending cells is ends) =
     let k = declarations_of g in
     let f : Made = record { graph = g; core = c } in
     let w = work-ends g l desk c run going cells is in
-    let none = no_error-body g desk.past c going.servable.error going.servable.errors in
     let over : IsOver ghosts f (Some w.over.context) (exchanges m) (ghosts.state run.work) cells =
     subst (λ (o : Option Context). IsOver ghosts f o (exchanges m) (ghosts.state run.work) cells) w.over.is_open w.over in
-    let follows = ended-follows g desk.past c w.over.context (exchanges m) (asked_entries m) (ghosts.state run.work) cells w.reading none over in
+    let follows = ended-follows g desk.past c w.over.context (exchanges m) (asked_entries m) (ghosts.state run.work) cells w.reading over in
     subst (Current g desk c m) (sym ends)
     (record {
       current = ended-context g desk.past c cells;

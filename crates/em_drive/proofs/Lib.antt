@@ -8,6 +8,7 @@ pub mod Waiting
 pub mod Everywhere
 pub mod OrderUsed
 pub mod RunnableParts
+pub mod RunnableErrors
 pub mod OpenQueues
 pub mod Served
 pub mod Took

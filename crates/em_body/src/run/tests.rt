@@ -58,13 +58,11 @@ fn compare(
 ) -> Result<(), Fail>
     requires { IsTrue (is_small s.now) }
 {
-    let mut v = Environment::opening(CoreId(2), &received(cells));
-    v.set(0, 9);
-    let mut stack = Stack::new();
-    let made = carry_out(s, &mut v, &mut stack);
-    if let Move::Ask(_) = &made {
-        v.answered(s, answer);
-    }
+    let mut standing = Standing::new(Environment::opening(CoreId(2), &received(cells)));
+    standing.environment.set(0, 9);
+    let made = standing.carry_out(s);
+    standing.answered(answer);
+    let v = &standing.environment;
     let cell = match v.cells {
         Some(cells) => cells.0[1],
         None => 0,

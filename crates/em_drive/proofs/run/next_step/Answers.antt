@@ -4,7 +4,7 @@ use Rattle.em_drive.proofs.run.next_step.Goals as goal
 pub loop-step-smaller : goal.loop-step-smaller
 loop-step-smaller c =
     let steps = rw c.in-Silent.is at c.next.ensures.steps in
-    c.steps_run_out.ensures.fall _ _ _ _ steps.1 (λ is. cc is)
+    c.steps_run_out.ensures.fall c.loop-step.run.work.made _ _ _ steps.1 (λ is. cc is)
 
 pub loop-step-preserved : goal.loop-step-preserved
 loop-step-preserved c =
