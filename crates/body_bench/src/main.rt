@@ -1,14 +1,18 @@
-//! Runs boot bodies of so many times 256 rounds: their moves as a table, or, with a number of times, the nanoseconds that
-//! moves took.
+//! Runs boot bodies of so many times 256 rounds, and of so many faults that an error body handles: their moves as a table, or,
+//! with a number of times, the nanoseconds that moves took.
 #![tactic(auto)]
 
 ghost use Rattle.em_log.specs.WellFormed.{IsWellFormed};
 
+mod faults;
+mod moves;
 mod rounds;
 
 use em_body::BodyRun;
 use em_log::{Config, CoreId};
-use rounds::{boot, counting_graph, empty_graph};
+use faults::faulting_graph;
+use moves::boot;
+use rounds::{counting_graph, empty_graph};
 use std::env;
 use std::time::Instant;
 
@@ -62,6 +66,9 @@ fn print_times(rt: &HostRuntime, times: u16) -> anyhow::Result<()> {
     if let Ok(config) = empty_graph(rt.alloc(), times) {
         print_time(rt, "empty", times, &config)?;
     }
+    if let Ok(config) = faulting_graph(rt.alloc(), times) {
+        print_time(rt, "faulting", times, &config)?;
+    }
     Ok(())
 }
 
@@ -81,12 +88,23 @@ fn print_moves(rt: &HostRuntime, times: u16) -> anyhow::Result<()> {
     Ok(())
 }
 
+fn print_faults(rt: &HostRuntime, faults: u16) -> anyhow::Result<()> {
+    if let Ok(config) = faulting_graph(rt.alloc(), faults) {
+        let moves = boot(&mut BodyRun::new(&config, CoreId(0)));
+        println!(rt; "{faults} faults that are handled: {moves} moves")?;
+    }
+    Ok(())
+}
+
 fn main(rt: HostRuntime) -> anyhow::Result<()> {
     if let Some(word) = env::args(&rt)?.nth(1) {
         return print_times(&rt, word.as_str().parse::<u16>().unwrap_or(0));
     }
     for times in [1, 16, 64, 255] {
         print_moves(&rt, times)?;
+    }
+    for faults in [1, 25, 50, 100] {
+        print_faults(&rt, faults)?;
     }
     Ok(())
 }

@@ -1,11 +1,9 @@
 //! Graphs whose boot body is one of nested rounds.
-ghost use Rattle.std.specs.Prelude.{◌≡◌, ◌≤◌, ◌∷◌, [], IfOk, None};
+ghost use Rattle.std.specs.Prelude.{◌≡◌, ◌≤◌, ◌∷◌, [], IfOk};
 ghost use Rattle.em_log.specs.WellFormed.{IsWellFormed};
-ghost use Rattle.em_body.specs.Standings.{unanswered};
 ghost use Rattle.body_bench.specs.Rounds.{booting, rounds, counting};
 
-use em_body::BodyRun;
-use em_log::{Block, Config, Context, Expr, List, Move, NoMemory, Stmt, Work};
+use em_log::{Block, Config, Expr, List, NoMemory, Stmt};
 use sqlite_items::Boxed;
 use std::alloc::Global;
 
@@ -78,17 +76,4 @@ pub fn empty_graph(alloc: Global, times: u16) -> Result<Config, NoMemory>
     ensures { IfOk result IsWellFormed }
 {
     graph(alloc, times, List::new(alloc))
-}
-
-/// How many moves the boot body makes before its end.
-pub fn boot(run: &mut BodyRun<'_>) -> u32
-    ensures { result ≤ 65536 }
-{
-    run.begin(&Context::Boot);
-    for moves in 0..65_536 {
-        let Move::Silent = run.next() else {
-            return moves;
-        };
-    }
-    65_536
 }
