@@ -5,3 +5,5 @@ pub mod Numerals
 pub mod Answering
 pub mod Ending
 pub mod Pieces
+pub mod Splitting
+pub mod CommandTexts

@@ -1,0 +1,8 @@
+-- The words from the index on tell as much as all of them.
+use Rattle.std.proofs.Common.{◌≡◌, drop, map, string_bytes}
+use Rattle.std.specs.List.{list_any}
+use Rattle.em_tool.specs.Splitting.{is_option}
+use Rattle.em_tool.proofs.words.has_option.Given as goal
+
+abbrev pub invariant-loop-word : goal.invariant-loop-word
+invariant-loop-word l = list_any is_option (map string_bytes l.words) ≡ list_any is_option (map string_bytes (drop l.word-index l.words))
