@@ -1,5 +1,5 @@
 -- Runs in which each take has one choice at most, decided by computing.
-use Rattle.std.proofs.Common.{◌≡◌, ℕ, zero, suc, ◌+◌, ◌<◌, ◌≤◌, ◌==◌, ◌||◌, Bool, true, false, not, ◌&&◌, nat_lt, nat_le, List, [], ◌∷◌, length, Option, Some, None, is_none, refl, ap, subst, sym, ◌∙◌, arith, if◌then◌else◌, slice_get, unwrap_or}
+use Rattle.std.proofs.Common.{◌≡◌, ℕ, zero, suc, ◌+◌, ◌<◌, ◌≤◌, ◌==◌, ◌||◌, Bool, true, false, not, ◌&&◌, nat_lt, nat_le, List, [], ◌∷◌, length, Option, Some, None, is_none, refl, ap, subst, sym, ◌∙◌, arith, if◌then◌else◌, slice_get}
 use Rattle.std.specs.List.{list_all, list_any, find}
 use Rattle.std.specs.Option.{option_map_or}
 use Rattle.std.proofs.lemmas.Bool.{leb-true, ltb-true, false≢true}
@@ -24,6 +24,7 @@ use Rattle.em_log.specs.Lawful.{may_ask}
 use Rattle.em_log.specs.Allowance.{cost_of_ask, left}
 use Rattle.em_log.specs.Answers.{Takes, Halted, Boots, Early, Enters, Acks, Receives, Rests, block, has_choice, is_first}
 use Rattle.em_moments.proofs.Choices.{choice-ready}
+use Rattle.em_context_parts.proofs.AtomicHolders.{find-true}
 use Rattle.em_laws.proofs.Cores.{Compared, Same, Other, compared, eqb-eq}
 use Rattle.em_desk.specs.State.{DeskState}
 use Rattle.em_desk.specs.Served.{served}
@@ -45,13 +46,7 @@ served-declared (d ∷ ds) (suc q) is = let lt = served-declared ds q is in omeg
 choice-declared : (k : Declarations) (l : Limits) (past : Past) (c q : ℕ) → is_choice k l past c q ≡ true → q < length k.queues
 choice-declared k l past c q is = served-declared k.queues q (choice-ready k l past c q is).served
 
--- the least queue that the core may take from, and whether it is the only one
-
-abbrev pub chosen : Declarations → Limits → Past → ℕ → ℕ
-chosen k l past c = unwrap_or (find (is_choice k l past c) (below (length k.queues))) 0
-
-abbrev pub is_single : Declarations → Limits → Past → ℕ → Bool
-is_single k l past c = list_all (λ q. not (is_choice k l past c q) || (q == chosen k l past c)) (below (length k.queues))
+-- looking through the queues
 
 all-from : (f : ℕ → Bool) (a n i : ℕ) → list_all f (numbers_from a n) ≡ true → a ≤ i → i < a + n → f i ≡ true
 all-from f a zero i is low high = absurd (omega arith)
@@ -59,7 +54,7 @@ all-from f a (suc n) i is low high = by_test (compared a i) (all-from f (suc a) 
   where
     by_test : Compared a i → (suc a ≤ i → i < suc a + n → f i ≡ true) → f i ≡ true
     by_test (Same t e) later = subst (λ (x : ℕ). f x ≡ true) e (both-true (f a) (list_all f (numbers_from (suc a) n)) is).0
-    by_test (Other f ne) later = later (omega (arith, low, ne)) (omega (arith, high))
+    by_test (Other t ne) later = later (omega (arith, low, ne)) (omega (arith, high))
 
 any-from : (f : ℕ → Bool) (a n i : ℕ) → a ≤ i → i < a + n → f i ≡ true → list_any f (numbers_from a n) ≡ true
 any-from f a zero i low high is = absurd (omega arith)
@@ -71,21 +66,63 @@ any-from f a (suc n) i low high is = by_test (compared a i) (f a) refl (any-from
     by_test (Same e same) false t later = let on : f a ≡ true = ap f same ∙ is in absurd (false≢true (sym t ∙ on))
     by_test (Other e ne) false t later = rw t (later (omega (arith, low, ne)) (omega (arith, high)) is)
 
--- where there is only one, a choice is it
-pub choice-single : (k : Declarations) (l : Limits) (past : Past) (c q : ℕ) → is_single k l past c ≡ true → is_choice k l past c q ≡ true
-    → (q ≡ chosen k l past c) × (has_choice k l past c ≡ true)
-choice-single k l past c q single is =
-    let declared = choice-declared k l past c q is in
-    let test = all-from (λ q. not (is_choice k l past c q) || (q == chosen k l past c)) 0 (length k.queues) q single (omega arith) (omega (arith, declared)) in
-    let same : (q == chosen k l past c) ≡ true = sym (ap (λ (b : Bool). not b || (q == chosen k l past c)) is) ∙ test in
-    let can : eligible k l past c q ≡ true = (both-true (eligible k l past c q) (is_best k l past c q) is).0 in
-    (eqb-eq q (chosen k l past c) same, any-from (eligible k l past c) 0 (length k.queues) q (omega arith) (omega (arith, declared)) can)
+find-at : (f : ℕ → Bool) (a n i : ℕ) → a ≤ i → i < a + n → f i ≡ true → find f (numbers_from a n) ≡ None → ⊥
+find-at f a zero i low high is none = absurd (omega arith)
+find-at f a (suc n) i low high is none = by_test (compared a i) (f a) refl none (find-at f (suc a) n i)
+  where
+    by_test : Compared a i → (b : Bool) → f a ≡ b → (if b then Some a else find f (numbers_from (suc a) n)) ≡ None
+        → (suc a ≤ i → i < suc a + n → f i ≡ true → find f (numbers_from (suc a) n) ≡ None → ⊥) → ⊥
+    by_test at true t none later = cc none
+    by_test (Same e same) false t none later = let on : f a ≡ true = ap f same ∙ is in false≢true (sym t ∙ on)
+    by_test (Other e ne) false t none later = later (omega (arith, low, ne)) (omega (arith, high)) is none
+
+-- the queue that the core may take from, and whether it is the only one, from which a take takes one event without a ticket
+
+abbrev pub found : Declarations → Limits → Past → ℕ → Option ℕ
+found k l past c = find (is_choice k l past c) (below (length k.queues))
+
+abbrev pub is_only : Declarations → Limits → Past → ℕ → Option ℕ → Bool
+is_only k l past c None = true
+is_only k l past c (Some q) =
+    list_all (λ r. not (is_choice k l past c r) || (r == q)) (below (length k.queues)) && (take_size k l past c q == 1) && is_none (ticket_drawn k past q)
+
+none-is : {A : Type 0} (o : Option A) → is_none o ≡ true → o ≡ None
+none-is None is = refl
+none-is (Some x) is = absurd (false≢true is)
 
 -- takes
 
-abbrev pub received : Declarations → Limits → Past → ℕ → Past
-received k l past c =
-    block k past (entry_by c (What.Take (record { 0 = chosen k l past c }) (take_size k l past c (chosen k l past c)) (ticket_drawn k past (chosen k l past c))))
+abbrev pub received : Declarations → Past → ℕ → Option ℕ → Past
+received k past c None = past
+received k past c (Some q) = block k past (entry_by c (What.Take (record { 0 = q }) 1 None))
+
+-- a choice is the one that was found
+pub received-is : (k : Declarations) (l : Limits) (past : Past) (c q : ℕ) (o : Option ℕ) (now : Past) → found k l past c ≡ o → is_only k l past c o ≡ true
+    → is_choice k l past c q ≡ true → now ≡ block k past (entry_by c (What.Take (record { 0 = q }) (take_size k l past c q) (ticket_drawn k past q)))
+    → now ≡ received k past c o
+received-is k l past c q None now at only is made =
+    let declared = choice-declared k l past c q is in
+    absurd (find-at (is_choice k l past c) 0 (length k.queues) q (omega arith) (omega (arith, declared)) is at)
+received-is k l past c q (Some r) now at only is made =
+    let declared = choice-declared k l past c q is in
+    let parts = both-true (list_all (λ x. not (is_choice k l past c x) || (x == r)) (below (length k.queues)) && (take_size k l past c r == 1)) _ only in
+    let sizes = both-true (list_all (λ x. not (is_choice k l past c x) || (x == r)) (below (length k.queues))) (take_size k l past c r == 1) parts.0 in
+    let test = all-from (λ x. not (is_choice k l past c x) || (x == r)) 0 (length k.queues) q sizes.0 (omega arith) (omega (arith, declared)) in
+    let same : q ≡ r = eqb-eq q r (sym (ap (λ (b : Bool). not b || (q == r)) is) ∙ test) in
+    let size : take_size k l past c r ≡ 1 = eqb-eq (take_size k l past c r) 1 sizes.1 in
+    let ticket : ticket_drawn k past r ≡ None = none-is (ticket_drawn k past r) parts.1 in
+    made
+    ∙ (ap (λ x. block k past (entry_by c (What.Take (record { 0 = x }) (take_size k l past c x) (ticket_drawn k past x)))) same
+    ∙ (λ i. block k past (entry_by c (What.Take (record { 0 = r }) (size i) (ticket i)))))
+
+-- where there is no choice nothing is found
+pub rested-is : (k : Declarations) (l : Limits) (past : Past) (c : ℕ) (o : Option ℕ) → found k l past c ≡ o → has_choice k l past c ≡ false → past ≡ received k past c o
+rested-is k l past c None at none = refl
+rested-is k l past c (Some r) at none =
+    let is = find-true (is_choice k l past c) (below (length k.queues)) r at in
+    let declared = choice-declared k l past c r is in
+    let can : eligible k l past c r ≡ true = (both-true (eligible k l past c r) (is_best k l past c r) is).0 in
+    absurd (false≢true (sym none ∙ any-from (eligible k l past c) 0 (length k.queues) r (omega arith) (omega (arith, declared)) can))
 
 -- the history after a take of a core that owes no step
 abbrev pub after_take : Declarations → Limits → Bool → Past → ℕ → Past
@@ -93,36 +130,32 @@ after_take k l halted past c =
     if halted then past
     else if is_first c past then entry_by c (What.Enter Body.Boot) ∷ past
     else if not (boot_ended past) then past
-    else if has_choice k l past c then received k l past c
-    else past
+    else received k past c (found k l past c)
 
 first-later : (c : ℕ) (past : Past) → boot_ended past ≡ true → is_first c past ≡ false
 first-later c [] over = absurd (false≢true over)
 first-later c (e ∷ past) over = refl
 
-pub take-is : (k : Declarations) (l : Limits) (halted : Bool) (past : Past) (c : ℕ) (answer : Answer) (now : Past) → is_single k l past c ≡ true
+pub take-is : (k : Declarations) (l : Limits) (halted : Bool) (past : Past) (c : ℕ) (answer : Answer) (now : Past) → is_only k l past c (found k l past c) ≡ true
     → step k past c ≡ None → Takes k l halted past c answer now → now ≡ after_take k l halted past c
-take-is k l halted past c answer now single none (Halted h a n) = rw h n
-take-is k l halted past c answer now single none (Boots h f a n) = rw (h, f) n
-take-is k l halted past c answer now single none (Early h f o a n) = rw (h, f, o) n
-take-is k l halted past c answer now single none (Enters b x h o s n t a) = absurd cc
-take-is k l halted past c answer now single none (Acks op h o s n a) = absurd cc
-take-is k l halted past c answer now single none (Receives q x h o s f n t a) =
-    let first = choice-single k l past c q single f in
+take-is k l halted past c answer now only none (Halted h a n) = rw h n
+take-is k l halted past c answer now only none (Boots h f a n) = rw (h, f) n
+take-is k l halted past c answer now only none (Early h f o a n) = rw (h, f, o) n
+take-is k l halted past c answer now only none (Enters b x h o s n t a) = absurd cc
+take-is k l halted past c answer now only none (Acks op h o s n a) = absurd cc
+take-is k l halted past c answer now only none (Receives q x h o s f n t a) =
     let early = first-later c past o in
-    let chosen = first.1 in
-    rw (h, early, o, chosen)
-    (n ∙ ap (λ r. block k past (entry_by c (What.Take (record { 0 = r }) (take_size k l past c r) (ticket_drawn k past r)))) first.0)
-take-is k l halted past c answer now single none (Rests h o s f r n) =
+    rw (h, early, o) (received-is k l past c q (found k l past c) now refl only f n)
+take-is k l halted past c answer now only none (Rests h o s f r n) =
     let early = first-later c past o in
-    rw (h, early, o, f) n
+    rw (h, early, o) (n ∙ rested-is k l past c (found k l past c) refl f)
 
 -- moves
 
 abbrev pub may_take : DeskState → ℕ → Bool
 may_take d c =
     nat_lt c d.declarations.cores && is_none (context d.past c) && is_empty (taken d.declarations d.past c)
-    && is_none (step d.declarations d.past c) && is_single d.declarations d.limits d.past c
+    && is_none (step d.declarations d.past c) && is_only d.declarations d.limits d.past c (found d.declarations d.limits d.past c)
 
 abbrev pub may_do : DeskState → ℕ → Ask → Bool
 may_do d c ask =
@@ -142,20 +175,16 @@ abbrev pub passes : DeskState → List (ℕ × Move) → Bool
 passes d [] = true
 passes d (m ∷ ms) = may_move d m.0 (ask_of m.1) && passes (with_past d (moved d m.0 (ask_of m.1))) ms
 
-none-is : {A : Type 0} (o : Option A) → is_none o ≡ true → o ≡ None
-none-is None is = refl
-none-is (Some x) is = absurd (false≢true is)
-
 empty-is : (xs : List Item) → is_empty xs ≡ true → xs ≡ []
 empty-is [] is = refl
 empty-is (x ∷ xs) is = absurd (false≢true is)
 
-may-take : (d : DeskState) (c : ℕ) → may_take d c ≡ true → MayTake d c × ((step d.declarations d.past c ≡ None) × (is_single d.declarations d.limits d.past c ≡ true))
+may-take : (d : DeskState) (c : ℕ) → may_take d c ≡ true → MayTake d c × ((step d.declarations d.past c ≡ None) × (is_only d.declarations d.limits d.past c (found d.declarations d.limits d.past c) ≡ true))
 may-take d c is =
     let z =
     both-true
     (nat_lt c d.declarations.cores && is_none (context d.past c) && is_empty (taken d.declarations d.past c) && is_none (step d.declarations d.past c))
-    (is_single d.declarations d.limits d.past c)
+    (is_only d.declarations d.limits d.past c (found d.declarations d.limits d.past c))
     is
     in
     let a =
