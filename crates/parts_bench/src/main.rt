@@ -4,9 +4,18 @@
 ghost use Rattle.std.specs.Prelude.{◌≡◌, ◌<◌, ◌≤◌, IfOk, length};
 ghost use Rattle.em_queues.specs.State.{shape};
 
+mod acks;
+mod atomics;
+mod egroups;
+mod graphs;
+mod groups;
+mod objects;
+mod orders;
 mod queues;
+mod runs;
 
 use crate::queues::{Call, each};
+use crate::runs::{Rounds, acknowledged, applied, atomic, grouped, moved, ordered};
 use em_log::{Kind, NoMemory, Priority, QueueId};
 use em_parts_rows::graph;
 use em_queues::{Allowed, Queues};
@@ -112,6 +121,51 @@ fn timed(
     Ok(())
 }
 
+/// Prints how often each call was made, as so many times in each round, and how often there was something to do.
+fn counted(
+    rt: &HostRuntime,
+    rounds: Result<Rounds, NoMemory>,
+    calls: &[(&'static str, u32)],
+) -> anyhow::Result<()> {
+    let Ok(rounds) = rounds else {
+        return Ok(());
+    };
+    for (name, times) in calls {
+        println!(rt; "{name} {}", u64::from(*times) * u64::from(rounds.count))?;
+    }
+    println!(rt; "done {}", rounds.done)?;
+    Ok(())
+}
+
+/// The rounds of the part of this name: of so many queues, groups, objects or operations.
+fn part(rt: &HostRuntime, name: &str, count: u16, events: u16) -> anyhow::Result<()>
+    requires one { 1 ≤ count }
+    requires queues { count ≤ 256 }
+    requires some { 1 ≤ events }
+    requires events { events ≤ 4096 }
+{
+    let alloc = rt.alloc();
+    let few = count.min(64) as u8;
+    match name {
+        "ordered" => counted(
+            rt,
+            ordered(alloc, count, events),
+            &orders::calls(u32::from(events)),
+        ),
+        "atomic" => counted(rt, atomic(alloc, count), &atomics::CALLS),
+        "groups" => counted(rt, grouped(alloc, few), &groups::CALLS),
+        "objects" => counted(rt, moved(alloc, few), &objects::CALLS),
+        "event_groups" => counted(rt, applied(alloc, few), &egroups::CALLS),
+        "operations" => counted(rt, acknowledged(alloc, few), &acks::calls(u32::from(few))),
+        _ => {
+            println!(rt;
+                "usage: parts_bench parallel|local|unscheduled|ordered|atomic|groups|objects|event_groups|operations COUNT EVENTS"
+            )?;
+            Ok(())
+        }
+    }
+}
+
 fn main(rt: HostRuntime) -> anyhow::Result<()> {
     let words: Vec<String> = env::args(&rt)?.skip(1).collect(rt.alloc())?;
     let number = |place: usize| words
@@ -124,9 +178,7 @@ fn main(rt: HostRuntime) -> anyhow::Result<()> {
         Some("parallel") => timed(&rt, &PARALLEL[..count], &mut served(), events),
         Some("local") => timed(&rt, &LOCAL[..count], &mut served(), events),
         Some("unscheduled") => timed(&rt, &UNSCHEDULED[..count], &mut dequeued(), events),
-        _ => {
-            println!(rt; "usage: parts_bench parallel|local|unscheduled QUEUES EVENTS")?;
-            Ok(())
-        }
+        Some(name) => part(&rt, name, count as u16, events),
+        None => part(&rt, "", 1, 1),
     }
 }
