@@ -1,17 +1,16 @@
 -- Which queues a core may take from, after each call.
-use Rattle.std.proofs.Common.{◌≡◌, ℕ, zero, suc, ◌+◌, ◌<◌, ◌≤◌, ◌==◌, nat_lt, Bool, true, false, not, ◌&&◌, List, [], ◌∷◌, length, map, get_or, slice_set, slice_get, slice_index_or, Option, Some, None, unwrap_or, refl, ap, sym, ◌∙◌, subst, arith, if◌then◌else◌}
-use Rattle.std.specs.Option.{option_map, option_map_or, option_and_then}
+use Rattle.std.proofs.Common.{◌≡◌, ℕ, zero, suc, ◌+◌, ◌<◌, nat_lt, Bool, true, false, not, ◌&&◌, List, [], ◌∷◌, length, map, get_or, slice_set, slice_get, slice_index_or, Option, Some, None, unwrap_or, refl, ap, sym, ◌∙◌, subst, arith, if◌then◌else◌}
+use Rattle.std.specs.Option.{option_map_or, option_and_then}
 use Rattle.std.proofs.lemmas.Bool.{lt-ltb, le-ltb, ltb-true}
 use Rattle.std.proofs.lemmas.List.{get_or-set_same, get_or-set_other, get_or_default}
 use Rattle.em_log.specs.declared.declarations.Declarations.{Declarations}
 use Rattle.em_log.specs.declared.ids.EoState.{EoState}
-use Rattle.em_log.specs.Declarations.{object_of, group_of, group_in, declared_mask, is_number}
+use Rattle.em_log.specs.Declarations.{object_of, group_of, group_in, is_number}
 use Rattle.em_log.specs.States.{first_state, is_running}
 use Rattle.em_log.specs.Eligible.{has_core}
 use Rattle.em_laws.proofs.Cores.{Compared, Same, Other, compared}
 use Rattle.em_queues.specs.declared.set.QueueSet.{QueueSet}
 use Rattle.em_queues.specs.Sets.{contains}
-use Rattle.em_objects.specs.Queues.{runs}
 use Rattle.em_objects.specs.Steps.{ObjectStep, Moved}
 use Rattle.em_groups.specs.Masks.{effective}
 use Rattle.em_groups.specs.Steps.{GroupStep}

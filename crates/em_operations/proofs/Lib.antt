@@ -1,1 +1,2 @@
 pub mod AllowedQueues
+pub mod Kept

@@ -1,1 +1,2 @@
 pub mod QueueSets
+pub mod Operations

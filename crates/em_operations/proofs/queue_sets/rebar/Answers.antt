@@ -1,5 +1,4 @@
-use Rattle.std.proofs.Common.{◌≡◌, ◌∙◌, ℕ, ◌+◌, not, ◌&&◌, nat_lt, length, slice_set, get_or, refl, ap, sym, subst, arith}
-use Rattle.em_queues.specs.declared.set.QueueSet.{QueueSet}
+use Rattle.std.proofs.Common.{◌≡◌, ◌∙◌, ℕ, ◌+◌, not, slice_set, get_or, refl, ap, sym, subst, arith}
 use Rattle.em_queues.specs.Sets.{contains}
 use Rattle.em_operations.specs.QueueSets.{AreRebarred, put_as}
 use Rattle.em_operations.proofs.AllowedQueues.{none-rebarred, next-rebarred}
@@ -22,9 +21,9 @@ loop-core-preserved c =
     let set = c.set_to.result in (
       length-set now c.from-place.result set ∙ count,
       subst (λ (i : ℕ). AreRebarred (n + 1) old queues c.args.mask.0 (slice_set now i set)) (sym from)
-      (next-rebarred old now queues set c.index.result.now c.args.mask.0 n c.index.result.now (omega (arith, test, cores)) count c.loop-core.invariant.1
-      (subst (λ (i : ℕ). c.index.result.now ≡ get_or now i c.index.result.now) from c.index.ensures)
-      (λ q. c.set_to.ensures q ∙ ap (λ b. put_as (contains queues q) (not b) (contains c.index.result.now q)) c.has_core.ensures)),
+          (next-rebarred old now queues set c.index.result.now c.args.mask.0 n c.index.result.now (omega (arith, test, cores)) count c.loop-core.invariant.1
+          (subst (λ (i : ℕ). c.index.result.now ≡ get_or now i c.index.result.now) from c.index.ensures)
+          (λ q. c.set_to.ensures q ∙ ap (λ b. put_as (contains queues q) (not b) (contains c.index.result.now q)) c.has_core.ensures)),
     )
 
 pub returns-clause-sets : goal.returns-clause-sets

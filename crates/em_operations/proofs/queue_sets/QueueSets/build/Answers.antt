@@ -1,5 +1,4 @@
-use Rattle.std.proofs.Common.{◌≡◌, ◌∙◌, ◌+◌, ℕ, length, List, Option, Bool, ap, subst}
-use Rattle.em_queues.specs.Sets.{contains}
+use Rattle.std.proofs.Common.{◌∙◌, ◌+◌, ℕ, length, List, Option, ap, subst}
 use Rattle.em_operations.specs.QueueSets.{AreDeclaredBarred, AreOf, number_at, runs_as}
 use Rattle.em_operations.proofs.AllowedQueues.{opened}
 use Rattle.em_operations.proofs.queue_sets.QueueSets.build.Goals as goal
