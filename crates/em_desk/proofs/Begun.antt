@@ -33,6 +33,7 @@ use Rattle.em_context_parts.specs.AtomicSteps.{atomic_steps, atomic_after}
 use Rattle.em_context_parts.specs.AtomicAlike.{AtomicsAlike}
 use Rattle.em_context_parts.proofs.AtomicCells.{atomics-alike}
 use Rattle.em_desk.specs.Atomics.{AtomicsStand}
+use Rattle.em_desk.specs.Groups.{GroupsStand}
 use Rattle.em_desk.specs.Acts.{said, pool_acts, queue_acts, AreReady}
 use Rattle.em_desk.specs.Openings.{opening_at, opening_of}
 use Rattle.em_bounds.specs.Room.{needed, lefts}
@@ -62,6 +63,7 @@ pub record IsMade (p q : Parts) (c : ℕ) (w : What) (acts : List Act) : Type 0 
   pub queues : queues.Stands p.declarations q.queues (served_steps c w (queue_steps p.declarations p.history.past))
   pub queue_shape : shape q.queues ≡ shape p.queues
   pub atomics : AtomicsStand p.declarations q.atomics (atomic_after p.declarations p.history.past c w (atomic_steps p.declarations p.history.past))
+  pub groups : GroupsStand p.declarations q.groups (entry_by c w ∷ p.history.past)
   pub ready : AreReady p.declarations (direct p.declarations p.history.past c w (pool_steps p.declarations p.history.past))
       (served_steps c w (queue_steps p.declarations p.history.past)) acts
   pub kept : AreKept p.declarations (entry_by c w ∷ p.history.past) q.kept
@@ -97,6 +99,7 @@ begun p q b c w acts s lt begins served cause core m =
       queue_lag = cause.queues (served_steps c w (queue_steps p.declarations p.history.past));
       queue_shape = m.queue_shape ∙ s.queue_shape;
       atomics = m.atomics;
+      groups = m.groups;
       ready = m.ready;
       kept = m.kept;
       cores = m.cores ∙ s.cores;
@@ -144,6 +147,7 @@ at-rest p b s =
       queue_lag = s.queue_lag;
       queue_shape = s.queue_shape;
       atomics = s.atomics;
+      groups = s.groups;
       ready = tt;
       kept = s.kept;
       cores = s.cores;
@@ -201,17 +205,19 @@ pub asked-begun : (p q : Parts) (c : ℕ) (a : Ask) (w : What) (acts : List Act)
     → p.pools.spare ≤ q.pools.spare + pays w
     → queues.Stands p.declarations q.queues (served_steps c w (queue_steps p.declarations p.history.past)) → shape q.queues ≡ shape p.queues
     → AtomicsStand p.declarations q.atomics (atomic_after p.declarations p.history.past c w (atomic_steps p.declarations p.history.past))
+    → GroupsStand p.declarations q.groups (entry_by c w ∷ p.history.past)
     → AreReady p.declarations (direct p.declarations p.history.past c w (pool_steps p.declarations p.history.past)) (served_steps c w (queue_steps p.declarations p.history.past)) acts
     → AreKept p.declarations (entry_by c w ∷ p.history.past) q.kept
-    → Standing (record p { history = pushed p c w; pools = q.pools; queues = q.queues; atomics = q.atomics; kept = q.kept }) c acts
-asked-begun p q c a w acts s e served cause core stands shapes spare lists same contexts ready kept =
-    begun p (record p { pools = q.pools; queues = q.queues; atomics = q.atomics; kept = q.kept }) 0 c w acts s e.core (Asks a e.may e.gives) served cause core
+    → Standing (record p { history = pushed p c w; pools = q.pools; queues = q.queues; atomics = q.atomics; groups = q.groups; kept = q.kept }) c acts
+asked-begun p q c a w acts s e served cause core stands shapes spare lists same contexts groups ready kept =
+    begun p (record p { pools = q.pools; queues = q.queues; atomics = q.atomics; groups = q.groups; kept = q.kept }) 0 c w acts s e.core (Asks a e.may e.gives) served cause core
     (record {
       pools = stands;
       pool_shape = shapes;
       queues = lists;
       queue_shape = same;
       atomics = contexts;
+      groups = groups;
       ready = ready;
       kept = kept;
       cores = refl;

@@ -17,6 +17,7 @@ use Rattle.em_bounds.specs.Bound.{context_need}
 use Rattle.em_bounds.proofs.Room.{lefts-more, other-left}
 use Rattle.em_desk.specs.Standing.{Stands}
 use Rattle.em_desk.proofs.Asked.{kept-same}
+use Rattle.em_desk.proofs.GroupsKept.{groups-kept}
 use Rattle.em_desk.proofs.Begun.{pushed, IsCause, begun, at-rest, all-with, HasRoom, has-room-by, settled-pools, settled-queues}
 use Rattle.em_desk.proofs.Contexts.{opening-other}
 use Rattle.em_desk.specs.Starts.{take_room}
@@ -63,6 +64,7 @@ boot-stands p q s none room spare opens =
       queues = settled-queues p 0 s;
       queue_shape = refl;
       atomics = s.atomics;
+      groups = groups-kept p.declarations p.groups p.history.past 0 boot refl s.groups;
       ready = tt;
       kept = kept-same p.declarations p.history.past (entry_by 0 boot ∷ p.history.past) p.kept (λ x. refl) s.kept;
       cores = ap length opens ∙ length-set p.contexts.items 0 Opening.Boot;

@@ -129,6 +129,7 @@ with-queues p v s stands same =
       queue_lag = refl;
       queue_shape = same ∙ s.queue_shape;
       atomics = s.atomics;
+      groups = s.groups;
       ready = tt;
       kept = s.kept;
       cores = s.cores;

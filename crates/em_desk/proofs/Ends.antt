@@ -25,27 +25,23 @@ use Rattle.em_parts.specs.QueueSteps.{arrived_steps}
 use Rattle.em_parts.proofs.Holdings.{same-held}
 use Rattle.em_desk.specs.declared.opening.Opening.{Opening}
 use Rattle.em_desk.specs.declared.parts.Parts.{Parts}
+use Rattle.em_egroups.specs.Stands as groups
 use Rattle.em_context_parts.specs.AtomicSteps.{atomic_steps, ended_steps}
+use Rattle.em_context_parts.specs.EgroupSteps.{egroup_steps, left_steps}
 use Rattle.em_desk.specs.Atomics.{AtomicsStand, CanGive}
 use Rattle.em_desk.specs.Openings.{opening_at, opening_of}
 use Rattle.em_bounds.specs.Room.{needed}
-use Rattle.em_desk.specs.Served.{AllServed}
 use Rattle.em_desk.specs.Standing.{Stands}
 use Rattle.em_desk.specs.State.{MayAsk}
 use Rattle.em_desk.proofs.Asked.{steps_of, kept-same}
 use Rattle.em_desk.proofs.Begun.{pushed, IsCause, begun, at-rest, untaken, atomics, all-with, HasRoom, has-room-by, settled-pools, settled-queues}
 use Rattle.em_desk.proofs.Contexts.{opening-other}
 use Rattle.em_bounds.proofs.Room.{needed-end}
-use Rattle.em_desk.proofs.Served.{none-busy}
+use Rattle.em_desk.proofs.OpenStamps.{no-open-stamp}
 use Rattle.em_desk.proofs.Unordered.{no-ticket, boot-or-receive}
 
 abbrev pub end_of_context : ℕ → Option Cells → What
 end_of_context n cells = What.End n cells
-
--- nothing is notified, as no group is busy
-unnotified : (k : Declarations) (now : Past) (c : ℕ) (o : Option Stamp) → AllServed k now → notification k now c o ≡ []
-unnotified k now c None s = refl
-unnotified k now c (Some t) s = let idle = none-busy k now t.group.0 s in rw idle refl
 
 end-plain : (k : Declarations) (past now : Past) (c : ℕ) (o : Option What) → IsTrue (is_boot_or_receive o)
     → end_tail k past now c o ≡ outs k past (let_in past now (open_ticket past c)) ++ notification k now c (open_stamp past c)
@@ -69,7 +65,7 @@ end-cause p c n cells s may =
       queues = λ s. ap (λ (t : Option Ticket). arrived_steps k past (let_in past now t) s) free;
       tail = end-plain k past now c (context past c) kind
           ∙ (ap (λ (t : Option Ticket). outs k past (let_in past now t) ++ notification k now c (open_stamp past c)) free
-          ∙ unnotified k now c (open_stamp past c) (refl, s.served));
+          ∙ ap (notification k now c) (no-open-stamp k p.limits past c s.all s.served));
     }
 
 pub lost-is : (p : Parts) (c lost : ℕ) → Stands p → ((s : List PoolStep) → pools.Stands p.pools s → lost ≡ length (held_by s c)) → lost ≡ length (held p.history.past c)
@@ -127,6 +123,10 @@ end-stands p q c lost cells s may count stands shapes spare given opens =
       queues = settled-queues p 0 s;
       queue_shape = refl;
       atomics = subst (λ (b : Bool). AtomicsStand p.declarations q.atomics (ended_steps b cells c (atomic_steps p.declarations p.history.past))) (sym (ap is_empty (untaken p 0 c s))) given;
+      groups = record {
+        steps = subst (λ (o : Option Stamp). groups.Stands p.groups (left_steps o (egroup_steps p.history.past))) (sym (no-open-stamp p.declarations p.limits p.history.past c s.all s.served)) s.groups.steps;
+        count = s.groups.count;
+      };
       ready = tt;
       kept = kept-same p.declarations p.history.past (entry_by c (What.End lost cells) ∷ p.history.past) p.kept (λ x. refl) s.kept;
       cores = ap length opens ∙ length-set p.contexts.items c Opening.Closed;

@@ -1,9 +1,12 @@
 mod Mapped
 pub mod Served
 pub mod Unordered
+mod Unstamped
+mod OpenStamps
 mod Rooms
 mod Contexts
 mod Begun
+mod GroupsKept
 mod Performed
 mod Listed
 mod Asked

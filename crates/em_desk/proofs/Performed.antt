@@ -27,6 +27,7 @@ use Rattle.em_desk.specs.Standing.{Standing, IsCore}
 use Rattle.em_bounds.proofs.Room.{needed-out}
 use Rattle.em_desk.proofs.Contexts.{opening-stays}
 use Rattle.em_desk.proofs.Begun.{has-room-by}
+use Rattle.em_desk.proofs.GroupsKept.{groups-kept}
 
 -- what is left can still be done
 
@@ -153,6 +154,7 @@ performed p q c a acts s pool_stands shapes spare queue_stands same = by_says a.
           queue_lag = s.queue_lag;
           queue_shape = same ∙ s.queue_shape;
           atomics = s.atomics;
+          groups = s.groups;
           ready = ready;
           kept = s.kept;
           cores = s.cores;
@@ -182,6 +184,7 @@ performed p q c a acts s pool_stands shapes spare queue_stands same = by_says a.
           queue_lag = s.queue_lag;
           queue_shape = same ∙ s.queue_shape;
           atomics = s.atomics;
+          groups = groups-kept p.declarations p.groups p.history.past c (What.Out r kind words) refl s.groups;
           ready = ready;
           kept = record { count = s.kept.count; room = s.kept.room; lists = s.kept.lists; once = s.kept.once; below = s.kept.below };
           cores = s.cores;

@@ -52,6 +52,7 @@ use Rattle.em_bounds.proofs.Room.{lefts-more, other-left}
 use Rattle.em_desk.specs.Standing.{Stands}
 use Rattle.em_desk.specs.Starts.{IsNext, take_room}
 use Rattle.em_desk.proofs.Asked.{steps_of, kept-same}
+use Rattle.em_desk.proofs.GroupsKept.{groups-kept}
 use Rattle.em_desk.proofs.Begun.{pushed, HasRoom, has-room-by, all-with, untaken, atomics, settled-pools, settled-queues}
 use Rattle.em_desk.proofs.Contexts.{opening-other}
 use Rattle.em_desk.proofs.KeptEvents.{HasObject, has-object}
@@ -217,6 +218,8 @@ received p q' c q f s lt choice room spare pool_stands shapes minted queue_stand
       queue_lag = refl;
       queue_shape = same ∙ s.queue_shape;
       atomics = held;
+      groups = groups-kept p.declarations p.groups (entry_by c (take_of q) ∷ p.history.past) c (start_by q (item_again p.history.past f.front.item)) refl
+          (groups-kept p.declarations p.groups p.history.past c (take_of q) refl s.groups);
       ready = tt;
       kept = kept-same p.declarations p.history.past (after_take p.history.past c q (item_again p.history.past f.front.item)) p.kept (λ x. refl) s.kept;
       cores = ap length opens ∙ (length-set p.contexts.items c _ ∙ s.cores);

@@ -44,6 +44,7 @@ use Rattle.em_desk.proofs.Served.{closed-declared}
 use Rattle.em_desk.proofs.Unordered.{no-ticket}
 use Rattle.em_desk.proofs.Listed.{Located, InQueue as ListedQueue, IsTaken, located}
 use Rattle.em_desk.proofs.Asked.{steps_of, own-lead, kept-same}
+use Rattle.em_desk.proofs.GroupsKept.{groups-kept}
 use Rattle.em_desk.proofs.Begun.{pushed, IsCause, IsAsked, asked-begun, settled-pools, settled-queues}
 
 -- a handle that a core may use
@@ -198,8 +199,9 @@ send-begun p q c w to e s may ok within queue event stands shapes spare kept =
     let inside : index_of w < event_total p.declarations.pools = subst (λ ps. index_of w < event_total ps) s.pool_shape within in
     let same : ours.minter.event ≡ e = some-inj _ _ (sym (event-is p w s ours) ∙ event) in
     subst (λ (e : Event). Standing (record p { history = pushed p c (send_of w to); pools = q.pools; kept = q.kept }) c (send_act p.declarations e c w to ∷ [])) same
-    (asked-begun p (record q { queues = p.queues; atomics = p.atomics }) c (Ask.Send w to None) (send_of w to) (send_act p.declarations ours.minter.event c w to ∷ []) s (send-asked p c w to s may ok) may.served
+    (asked-begun p (record q { queues = p.queues; atomics = p.atomics; groups = p.groups }) c (Ask.Send w to None) (send_of w to) (send_act p.declarations ours.minter.event c w to ∷ []) s (send-asked p c w to s may ok) may.served
     (send-cause p.declarations p.history.past c w to ours.minter ours.minting) may.core stands shapes (omega (arith, spare)) (settled-queues p 0 s) refl s.atomics
+    (groups-kept p.declarations p.groups p.history.past c (send_of w to) refl s.groups)
     (send-ready p ours.minter.event c w to s inside may.core queue (is-unlisted p w s ours), (refl, tt))
     (subst (λ v. AreKept p.declarations (entry_by c (send_of w to) ∷ p.history.past) v) (sym kept)
     (kept-same p.declarations p.history.past (entry_by c (send_of w to) ∷ p.history.past) p.kept (λ x. refl) s.kept)))

@@ -6,6 +6,7 @@ pub mod Lines
 pub mod Histories
 pub mod Atomics
 pub mod Acts
+pub mod Groups
 pub mod Standing
 pub mod Choices
 pub mod Answers

@@ -19,6 +19,7 @@ use Rattle.em_desk.specs.declared.desk.Desk.TheInside.{Inside}
 use Rattle.em_context_parts.specs.AtomicSteps.{atomic_steps}
 use Rattle.em_desk.specs.Atomics.{AtomicsStand}
 use Rattle.em_desk.specs.Graphs.{AreInBounds, AreInRange}
+use Rattle.em_desk.specs.Groups.{GroupsStand}
 use Rattle.em_desk.specs.Served.{AllServed}
 use Rattle.em_desk.specs.Acts.{said, pool_acts, queue_acts, AreReady}
 use Rattle.em_desk.specs.Lines.{LinesState, list_at}
@@ -71,6 +72,7 @@ pub record Standing (p : Parts) (c : ℕ) (acts : List Act) : Type 0 where
   pub queue_lag : queue_steps p.declarations p.history.past ≡ queue_acts acts queue
   pub queue_shape : shape p.queues ≡ shape_of p.declarations
   pub atomics : AtomicsStand p.declarations p.atomics (atomic_steps p.declarations p.history.past)
+  pub groups : GroupsStand p.declarations p.groups p.history.past
   pub ready : AreReady p.declarations pool queue acts
   pub kept : AreKept p.declarations p.history.past p.kept
   pub cores : length p.contexts.items ≡ p.declarations.cores

@@ -23,6 +23,7 @@ use crate::outcome::reply;
 use crate::parts::Parts;
 use crate::shapes::{event_count, object_of};
 use crate::takes::Received;
+use em_egroups::EventGroups;
 use em_log::{
     Answer, Ask, Config, Context, CoreId, EndKind, Entry, Limits, Locals, NoMemory, Reply, declare,
 };
@@ -61,6 +62,7 @@ impl Desk {
         let pools = Pools::build(alloc, config)?;
         let queues = Queues::build(alloc, config)?;
         let atomics = AtomicQueues::build(alloc, config, &declarations)?;
+        let groups = EventGroups::build(alloc, config)?;
         let events = event_count(&declarations);
         let kept = Lines::build(alloc, declarations.running.as_slice().len() as u16, events)?;
         let contexts = closed(alloc, declarations.cores)?;
@@ -73,6 +75,7 @@ impl Desk {
                 pools,
                 queues,
                 atomics,
+                groups,
                 kept,
                 contexts,
                 started: 0,

@@ -30,6 +30,7 @@ invariant_of-result c =
     (ap (λ (p : PoolState). p.pools) c.in_ok-pools.ensures.value ∙ sym (ap (λ (k : Declarations). k.pools) is))
     (subst (λ (k : Declarations). queues.Stands k c.in_ok-queues.queues []) (sym is) c.in_ok-queues.ensures.stands)
     (c.in_ok-queues.ensures.shape ∙ (shape-declared c.args.config.now ∙ ap shape_of (sym is))) c.in_ok-atomics.ensures
+    (record { steps = c.in_ok-groups.ensures.stands; count = c.in_ok-groups.ensures.len ∙ sym (ap (λ (k : Declarations). k.egroups) is) })
     (c.in_ok-kept.ensures.lists ∙ ap (λ (rs : List Bool). empty_lists (length rs)) c.as_slice.ensures)
     (c.in_ok-kept.ensures.room ∙ c.event_count-events.ensures)
     c.in_ok-contexts.ensures refl
