@@ -16,6 +16,8 @@ use Rattle.em_objects.specs.Queues as part
 use Rattle.em_objects.specs.State.{ObjectsState, shape}
 use Rattle.em_objects.specs.Stands as objects
 use Rattle.em_objects.specs.Steps.{Flagged}
+use Rattle.em_operation_parts.specs.AckSteps.{ack_steps}
+use Rattle.em_operation_parts.specs.BegunOperations.{begun_operations}
 use Rattle.em_operation_parts.specs.GroupSteps.{group_steps}
 use Rattle.em_operation_parts.specs.ObjectSteps.{object_steps}
 use Rattle.em_operation_parts.specs.Queues.{in_group}
@@ -25,6 +27,7 @@ use Rattle.em_operations.specs.declared.operations.Operations.{Operations}
 use Rattle.em_operations.specs.declared.queue_sets.QueueSets.{QueueSets}
 use Rattle.em_operations.specs.Operations.{OperationsStand, flag_entry, may_take, touches}
 use Rattle.em_operations.specs.QueueSets.{SetsStand}
+use Rattle.em_operations.proofs.MovedTargets.{with-objects}
 
 pub operations-kept : (k : Declarations) (v : Operations) (past : Past) (c : ℕ) (w : What) → touches w ≡ false → OperationsStand k v past → OperationsStand k v (entry_by c w ∷ past)
 operations-kept k v past c (What.Enable q) untouched st = absurd cc
@@ -33,21 +36,7 @@ operations-kept k v past c (What.Begin op job notes) untouched st = absurd cc
 operations-kept k v past c (What.GlobalDone op ok) untouched st = absurd cc
 operations-kept k v past c (What.Ack op) untouched st = absurd cc
 operations-kept k v past c (What.Done op ok) untouched st = absurd cc
-operations-kept k v past c w untouched st =
-    record {
-      few_cores = st.few_cores;
-      few_queues = st.few_queues;
-      objects = st.objects;
-      objects_shape = st.objects_shape;
-      groups = st.groups;
-      groups_shape = st.groups_shape;
-      acks = st.acks;
-      acks_shape = st.acks_shape;
-      begun = st.begun;
-      room = st.room;
-      there = st.there;
-      queues = st.queues;
-    }
+operations-kept k v past c w untouched st = st
 
 -- a core may take from the queues of its set
 pub may-take : (k : Declarations) (l : Limits) (past : Past) (c q : ℕ) → AllAllowed k l past
@@ -70,32 +59,6 @@ pub flagged : (k : Declarations) (v : Operations) (past : Past) (c : ℕ) (q : Q
     → objects.Stands k o (Flagged q.0 on ∷ object_steps past) → shape o ≡ shape v.objects → SetsStand k s (Flagged q.0 on ∷ object_steps past) (group_steps past)
     → OperationsStand k (record v { objects = o; queues = s }) (entry_by c (flag_entry q on) ∷ past)
 flagged k v past c q true o s st stands same sets =
-    record {
-      few_cores = st.few_cores;
-      few_queues = st.few_queues;
-      objects = stands;
-      objects_shape = same ∙ st.objects_shape;
-      groups = st.groups;
-      groups_shape = st.groups_shape;
-      acks = st.acks;
-      acks_shape = st.acks_shape;
-      begun = st.begun;
-      room = st.room;
-      there = st.there;
-      queues = sets;
-    }
+    with-objects k v (object_steps past) (group_steps past) (ack_steps past) (begun_operations past) o s (Flagged q.0 true ∷ object_steps past) st stands same sets
 flagged k v past c q false o s st stands same sets =
-    record {
-      few_cores = st.few_cores;
-      few_queues = st.few_queues;
-      objects = stands;
-      objects_shape = same ∙ st.objects_shape;
-      groups = st.groups;
-      groups_shape = st.groups_shape;
-      acks = st.acks;
-      acks_shape = st.acks_shape;
-      begun = st.begun;
-      room = st.room;
-      there = st.there;
-      queues = sets;
-    }
+    with-objects k v (object_steps past) (group_steps past) (ack_steps past) (begun_operations past) o s (Flagged q.0 false ∷ object_steps past) st stands same sets

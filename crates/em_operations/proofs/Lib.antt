@@ -1,2 +1,5 @@
 pub mod AllowedQueues
+pub mod MovedTargets
+pub mod OwedSteps
+pub mod BegunTargets
 pub mod Kept

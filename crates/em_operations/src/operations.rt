@@ -19,10 +19,11 @@ use em_objects::Objects;
 use em_queues::QueueSet;
 use std::alloc::Global;
 
-/// The states of objects and the flags of queues, the masks of queue groups, what each core owes to operations that are not
+/// How many cores there are; the states of objects and the flags of queues, the masks of queue groups, what each core owes to operations that are not
 /// done, all operations as they began, and which queues a core may take from.
 #[derive(Drop)]
 pub struct Operations {
+    pub cores: u8,
     pub objects: Objects,
     pub groups: Groups,
     pub acks: Acks,
@@ -54,6 +55,7 @@ impl Operations {
         ensures { IfOk result (λ v. OperationsStand declarations.now v []) }
     {
         Ok(Operations {
+            cores: declarations.cores,
             objects: Objects::build(alloc, config)?,
             groups: Groups::build(alloc, config)?,
             acks: Acks::build(alloc, config)?,
