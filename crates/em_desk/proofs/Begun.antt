@@ -1,5 +1,5 @@
 -- An ask begins by its first entry.
-use Rattle.std.proofs.Common.{◌≡◌, ℕ, ◌+◌, ◌*◌, ◌<◌, ◌≤◌, [], ◌∷◌, List, Option, Some, length, refl, ap, sym, ◌∙◌, subst, arith, IsTrue}
+use Rattle.std.proofs.Common.{◌≡◌, ℕ, ◌+◌, ◌<◌, ◌≤◌, [], ◌∷◌, List, Option, Some, length, refl, ap, sym, ◌∙◌, subst, arith, IsTrue}
 use Rattle.em_log.specs.declared.ask.Ask.{Ask}
 use Rattle.em_log.specs.declared.declarations.Declarations.{Declarations}
 use Rattle.em_log.specs.declared.entry.What.{What}
@@ -37,7 +37,7 @@ use Rattle.em_desk.specs.Groups.{GroupsStand}
 use Rattle.em_desk.specs.Acts.{said, pool_acts, queue_acts, AreReady}
 use Rattle.em_desk.specs.Openings.{opening_at, opening_of}
 use Rattle.em_bounds.specs.Room.{needed, lefts}
-use Rattle.em_bounds.specs.Bound.{receive_need}
+use Rattle.em_bounds.specs.Bound.{IsAfforded}
 use Rattle.em_desk.specs.Standing.{Standing, Stands, IsCore, AreKept}
 use Rattle.em_bounds.proofs.Room.{needed-lead}
 use Rattle.em_desk.proofs.Contexts.{opening-stays}
@@ -73,7 +73,7 @@ pub record IsMade (p q : Parts) (c : ℕ) (w : What) (acts : List Act) : Type 0 
   pub within : q.started ≤ p.limits.receives
   pub room : needed p.declarations (entry_by c w ∷ p.history.past) ≤ p.history.capacity
   pub mintable : lefts p.declarations (entry_by c w ∷ p.history.past) ≤ q.pools.spare
-  pub bounded : needed p.declarations (entry_by c w ∷ p.history.past) ≤ receive_need * (1 + q.started)
+  pub afforded : IsAfforded p.declarations p.history.past (entry_by c w)
 
 pub all-with : (p : Parts) (b c : ℕ) (w : What) → Standing p b [] → c < p.declarations.cores → Begins p.declarations p.limits p.history.past c w
     → AllAllowed p.declarations p.limits (entry_by c w ∷ p.history.past)
@@ -108,7 +108,7 @@ begun p q b c w acts s lt begins served cause core m =
       within = m.within;
       room = m.room;
       mintable = m.mintable;
-      bounded = m.bounded;
+      afforded = (m.afforded, s.afforded);
     }
 
 -- the parts of a settled desk
@@ -156,7 +156,7 @@ at-rest p b s =
       within = s.within;
       room = s.room;
       mintable = s.mintable;
-      bounded = s.bounded;
+      afforded = s.afforded;
     }
 
 -- asks that leave their context open
@@ -227,7 +227,7 @@ asked-begun p q c a w acts s e served cause core stands shapes spare lists same 
       within = s.within;
       room = let r = s.room in omega (arith, less, r);
       mintable = let r = s.mintable in omega (arith, less, r, spare);
-      bounded = let r = s.bounded in omega (arith, less, r);
+      afforded = λ b is whole. e.enough;
     })
   where
     less : needed p.declarations (entry_by c w ∷ p.history.past) ≤ needed p.declarations p.history.past

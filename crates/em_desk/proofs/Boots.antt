@@ -13,7 +13,7 @@ use Rattle.em_desk.specs.Openings.{opening_at, opening_of}
 use Rattle.em_log.specs.Allowance.{allowance}
 use Rattle.em_laws.proofs.Cores.{Compared, Same, Other, compared}
 use Rattle.em_bounds.specs.Room.{needed, lefts}
-use Rattle.em_bounds.specs.Bound.{context_need}
+use Rattle.em_bounds.specs.Bound.{IsAfforded, context_need}
 use Rattle.em_bounds.proofs.Room.{lefts-more, other-left}
 use Rattle.em_desk.specs.Standing.{Stands}
 use Rattle.em_desk.proofs.Asked.{kept-same}
@@ -73,7 +73,7 @@ boot-stands p q s none room spare opens =
       within = s.within;
       room = omega (arith, need, room);
       mintable = omega (arith, left, spare);
-      bounded = omega (arith, need);
+      afforded = subst (λ (h : Past). IsAfforded p.declarations h (entry_by 0 boot)) (sym none) (λ b is whole. absurd (cc is));
     }))
   where
     need : needed p.declarations (entry_by 0 boot ∷ p.history.past) ≡ context_need

@@ -68,5 +68,5 @@ built p fixed fresh pools shapes queues same contexts groups lists room closed n
       within = omega (arith, none);
       room = omega (arith, empty);
       mintable = omega (arith, empty);
-      bounded = omega (arith, empty);
+      afforded = tt;
     })

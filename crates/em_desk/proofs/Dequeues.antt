@@ -138,5 +138,5 @@ with-queues p v s stands same =
       within = s.within;
       room = s.room;
       mintable = s.mintable;
-      bounded = s.bounded;
+      afforded = s.afforded;
     }

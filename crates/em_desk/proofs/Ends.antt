@@ -135,7 +135,7 @@ end-stands p q c lost cells s may count stands shapes spare given opens =
       within = s.within;
       room = let r = s.room in omega (arith, less, r);
       mintable = let r = s.mintable in omega (arith, r, less, spare);
-      bounded = let r = s.bounded in omega (arith, less, r);
+      afforded = λ b is whole. omega arith;
     }))
   where
     less : needed p.declarations (entry_by c (What.End lost cells) ∷ p.history.past) ≤ needed p.declarations p.history.past

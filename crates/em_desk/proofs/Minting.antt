@@ -15,7 +15,7 @@ use Rattle.em_bounds.specs.Room.{left_if, left_open}
 use Rattle.em_desk.specs.Standing.{Stands}
 use Rattle.em_desk.specs.State.{MayAsk}
 use Rattle.em_desk.proofs.Begun.{settled-pools}
-use Rattle.em_desk.proofs.Rooms.{lefts-has}
+use Rattle.em_desk.proofs.Rooms.{lefts-has, needed-most, limit-most}
 
 -- each minting is paid for
 
@@ -55,10 +55,9 @@ pub can-mint : (p : Parts) → Stands p → p.pools.mintings < 4294967295
 can-mint p s =
     let minted = mintings-paid p.declarations p.history.past in
     let count = (settled-pools p 0 s).count in
-    let short = s.bounded in
-    let within = s.within in
-    let most = s.fixed.limits.most_receives in
-    omega (arith, minted, count, short, within, most)
+    let enough = needed-most p.declarations p.limits p.history.past s.fixed.limits.some_burst (record { each = s.all; whole = s.due }) s.afforded in
+    let most = limit-most p.declarations p.limits s.fixed.graph.most_cores s.fixed.limits.most_receives in
+    omega (arith, minted, count, enough, most)
 
 -- and the pools have room
 

@@ -163,7 +163,7 @@ performed p q c a acts s pool_stands shapes spare queue_stands same = by_says a.
           within = s.within;
           room = s.room;
           mintable = let r = s.mintable in omega (arith, r, spare);
-          bounded = s.bounded;
+          afforded = s.afforded;
         }
     by_says (Some (What.Out r kind words)) is may =
         let e : Entry = entry_by c (What.Out r kind words) in
@@ -193,6 +193,6 @@ performed p q c a acts s pool_stands shapes spare queue_stands same = by_says a.
           within = s.within;
           room = let r = s.room in omega (arith, r, sum);
           mintable = let r = s.mintable in omega (arith, r, sum, spare);
-          bounded = let r = s.bounded in omega (arith, r, sum);
+          afforded = (λ b is whole. absurd (cc (whole, first)), s.afforded);
         }
     by_says (Some w) is may = absurd may

@@ -45,10 +45,7 @@ use Rattle.em_desk.specs.declared.opening.Opening.{Opening}
 use Rattle.em_desk.specs.declared.parts.Parts.{Parts}
 use Rattle.em_desk.specs.Atomics.{cells_of, AtomicsStand, CanGrab}
 use Rattle.em_desk.specs.Openings.{opening_at, opening_of}
-use Rattle.em_log.specs.Allowance.{allowance}
-use Rattle.em_bounds.specs.Room.{left_open, lefts, needed}
-use Rattle.em_bounds.specs.Bound.{receive_need}
-use Rattle.em_bounds.proofs.Room.{lefts-more, other-left}
+use Rattle.em_bounds.specs.Room.{needed}
 use Rattle.em_desk.specs.Standing.{Stands}
 use Rattle.em_desk.specs.Starts.{IsNext, take_room}
 use Rattle.em_desk.proofs.Asked.{steps_of, kept-same}
@@ -169,22 +166,6 @@ none-taken p c s =
 
 -- room
 
-received-lefts : (p : Parts) (c : ℕ) (q : QueueId) (e : Event) → Stands p → c < p.declarations.cores → (f : IsFirst p c q)
-    → lefts p.declarations (after_take p.history.past c q e) ≡ lefts p.declarations p.history.past + allowance
-received-lefts p c q e s lt f =
-    let k = p.declarations in
-    let past = p.history.past in
-    let own = own-core c in
-    let closed = f.ready.between.closed in
-    let before : left_open k past c ≡ 0 = rw closed refl in
-    let after : left_open k (after_take past c q e) c ≡ allowance = rw own refl in
-    lefts-more k past (after_take past c q e) c allowance lt
-    (λ d ne. other-left k (entry_by c (take_of q) ∷ past) c (start_by q e) d ne ∙ other-left k past c (take_of q) d ne) (omega (arith, before, after))
-
-pub received-needed : (p : Parts) (c : ℕ) (q : QueueId) (e : Event) → Stands p → c < p.declarations.cores → (f : IsFirst p c q)
-    → needed p.declarations (after_take p.history.past c q e) ≡ needed p.declarations p.history.past + receive_need
-received-needed p c q e s lt f = let sum = received-lefts p c q e s lt f in omega (arith, sum)
-
 fits-now : (p : Parts) (c : ℕ) (q : QueueId) (e : Event) → Stands p → c < p.declarations.cores → IsFirst p c q → paid p.history.past + take_room ≤ p.history.capacity
     → needed p.declarations (after_take p.history.past c q e) ≤ p.history.capacity
 fits-now p c q e s lt f room =
@@ -228,7 +209,7 @@ received p q' c q f s lt choice room spare pool_stands shapes minted queue_stand
       within = let w = s.within in omega (arith, w, count, less);
       room = fits-now p c q (item_again p.history.past f.front.item) s lt f room;
       mintable = let most = lefts-most p.declarations (after_take p.history.past c q (item_again p.history.past f.front.item)) in let n = s.fixed.graph.most_cores in omega (arith, most, n, spare, minted);
-      bounded = let more = received-needed p c q (item_again p.history.past f.front.item) s lt f in let b = s.bounded in omega (arith, more, b, count);
+      afforded = (λ b is whole. absurd (let first = due-now p c q s f in cc (whole, first)), (λ b is whole. absurd (let closed = f.ready.between.closed in cc (is, closed)), s.afforded));
     }
   where
     cores : c < length p.contexts.items

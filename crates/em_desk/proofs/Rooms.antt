@@ -1,12 +1,20 @@
--- Bounds of what open contexts have left.
+-- Bounds of what open contexts have left, and of what a history needs.
 use Rattle.std.proofs.Common.{◌≡◌, ◌≢◌, ℕ, ◌*◌, ◌<◌, ◌≤◌, ◌==◌, [], Option, Some, None, refl, sym, arith, if◌then◌else◌}
+use Rattle.std.proofs.lemmas.Nat.{mul-le}
 use Rattle.em_log.specs.declared.declarations.Declarations.{Declarations}
 use Rattle.em_log.specs.declared.entry.What.{What}
+use Rattle.em_log.specs.declared.ids.Limits.{Limits}
 use Rattle.em_log.specs.History.{Past}
+use Rattle.em_log.specs.Bounds.{core_limit, operation_limit}
+use Rattle.em_log.specs.Lawful.{Lawful}
+use Rattle.em_log.specs.Operations.{operations}
 use Rattle.em_log.specs.Allowance.{allowance, left}
 use Rattle.em_log.specs.Contexts.{context}
 use Rattle.em_laws.proofs.Cores.{Compared, Same, Other, compared}
-use Rattle.em_bounds.specs.Room.{left_if, left_open, lefts}
+use Rattle.em_bounds.specs.Room.{left_if, left_open, lefts, needed}
+use Rattle.em_bounds.specs.Bound.{AllAfforded, operation_need, history_limit}
+use Rattle.em_bounds.proofs.Bound.{needed-bounded}
+use Rattle.em_bounds.proofs.Receives.{promised-within, operations-within}
 use Rattle.em_bounds.proofs.Sums.{sum-most, sum-one}
 
 left-most : (k : Declarations) (past : Past) (c : ℕ) → left_open k past c ≤ allowance
@@ -38,3 +46,16 @@ lefts-has k past c lt =
     none : Compared c c → (if c == c then 0 else left_open k past c) ≡ 0
     none (Same t e) = rw t refl
     none (Other f ne) = absurd (ne refl)
+
+-- what a history needs between asks, each of which was afforded, is no more than its greatest length
+pub needed-most : (k : Declarations) (l : Limits) (past : Past) → 1 ≤ l.burst → Lawful k l past → AllAfforded k past → needed k past ≤ history_limit k l
+needed-most k l past burst lawful afforded =
+    let need = needed-bounded k l past burst lawful afforded in
+    let receives = promised-within k l past lawful.each in
+    let numbers = operations-within k l past lawful.each in
+    let product = mul-le (operation_need k.cores) (operations past) (operation_need k.cores) operation_limit (omega arith) numbers in
+    omega (arith, need, receives, product)
+
+-- which is less than there are handles
+pub limit-most : (k : Declarations) (l : Limits) → k.cores ≤ core_limit → l.receives ≤ 10000 → history_limit k l < 4294967295
+limit-most k l cores receives = omega (arith, cores, receives)

@@ -1,5 +1,5 @@
 -- How the parts stand for a history in the middle of an ask: core c has still to do these acts.
-use Rattle.std.specs.Prelude.{ℕ, ◌≡◌, ◌≤◌, ◌+◌, ◌*◌, ◌<◌, false, List, [], ◌∷◌, length, map}
+use Rattle.std.specs.Prelude.{ℕ, ◌≡◌, ◌≤◌, ◌<◌, false, List, [], ◌∷◌, length, map}
 use Rattle.std.specs.List.{AllByRecursion}
 use Rattle.em_log.specs.declared.declarations.Declarations.{Declarations}
 use Rattle.em_log.specs.History.{Past, entries_by, has, index_of}
@@ -25,7 +25,7 @@ use Rattle.em_desk.specs.Acts.{said, pool_acts, queue_acts, AreReady}
 use Rattle.em_desk.specs.Lines.{LinesState, list_at}
 use Rattle.em_desk.specs.Openings.{opening_at, opening_of}
 use Rattle.em_bounds.specs.Room.{needed, lefts}
-use Rattle.em_bounds.specs.Bound.{receive_need}
+use Rattle.em_bounds.specs.Bound.{AllAfforded}
 use Rattle.em_desk.specs.Choices.{AreAllowed}
 
 -- a core that has something to do is one of the graph
@@ -82,7 +82,8 @@ pub record Standing (p : Parts) (c : ℕ) (acts : List Act) : Type 0 where
   -- there is room for all that the open contexts may still cause, and their mintings
   pub room : needed p.declarations p.history.past ≤ p.history.capacity
   pub mintable : lefts p.declarations p.history.past ≤ p.pools.spare
-  pub bounded : needed p.declarations p.history.past ≤ receive_need * (1 + p.started)
+  -- each ask was afforded, which bounds the history
+  pub afforded : AllAfforded p.declarations p.history.past
 
 -- between asks nothing is left to do
 abbrev pub Stands : Parts → Type 0

@@ -1,5 +1,5 @@
 //! The desk of a run.
-ghost use Rattle.std.specs.Prelude.{◌≡◌, ◌+◌, ◌*◌, ◌<◌, ◌≤◌, [], length, reverse, true, false, None, IfOk, OnErr, IsTrue, is_some};
+ghost use Rattle.std.specs.Prelude.{◌≡◌, ◌<◌, ◌≤◌, [], length, reverse, true, false, None, IfOk, OnErr, IsTrue, is_some};
 ghost use Rattle.em_log.specs.Declarations.{declarations_of};
 ghost use Rattle.em_log.specs.Contexts.{context};
 ghost use Rattle.em_log.specs.Places.{taken};
@@ -8,6 +8,7 @@ ghost use Rattle.em_log.specs.Leads.{lead};
 ghost use Rattle.em_log.specs.Lawful.{Lawful, may_ask};
 ghost use Rattle.em_log.specs.Allowance.{cost_of_ask, left};
 ghost use Rattle.em_log.specs.Answers.{Takes, end_of};
+ghost use Rattle.em_bounds.specs.Bound.{history_limit};
 ghost use Rattle.em_desk.specs.Graphs.{AreInBounds, AreInRange};
 ghost use Rattle.em_laws.specs.AllLaws.{KeepsLaws};
 ghost use Rattle.em_desk.specs.Served.{served, AllServed};
@@ -145,7 +146,7 @@ impl Desk {
         ensures lawful { Lawful self.now.declarations self.now.limits self.now.past }
         ensures laws { KeepsLaws self.now.declarations self.now.past }
         ensures served { AllServed self.now.declarations self.now.past }
-        ensures few { length self.now.past ≤ 260 * (1 + self.now.limits.receives) }
+        ensures few { length self.now.past ≤ history_limit self.now.declarations self.now.limits }
     {
         self.parts.history.as_slice()
     }

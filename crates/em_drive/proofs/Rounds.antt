@@ -167,13 +167,14 @@ kept-going g l was now n runs new all before after =
     subst (AreGoing g l now)
     (sym (ap (λ (m : ℕ). take m (new ++ drop (length new) runs)) all ∙ written-over new runs (after.count ∙ sym before.count))) after
 
--- the limits of the runs are the desk's
-pub limits-of : (g : Config) (l : Limits) (desk : DeskState) (runs : List (CoreRun Run)) → IsWellFormed g → AreGoing g l desk runs → desk.limits ≡ l
-limits-of g l desk runs formed are = by_case (slice_get_cases runs 0).1
+-- the graph and the limits of the desk are those of its runs
+pub desk-of : (g : Config) (l : Limits) (desk : DeskState) (runs : List (CoreRun Run)) → IsWellFormed g → AreGoing g l desk runs
+    → (desk.declarations ≡ declarations_of g) × (desk.limits ≡ l)
+desk-of g l desk runs formed are = by_case (slice_get_cases runs 0).1
   where
     by_case : ((x : CoreRun Run) × (0 < length runs) × (slice_get runs 0 ≡ Some x) × (slice_index_or runs 0 x ≡ x)) ⊎ ((length runs ≤ 0) × (slice_get runs 0 ≡ None))
-        → desk.limits ≡ l
-    by_case (inl found) = (are.each 0 found.0 found.2).going.limits
+        → (desk.declarations ≡ declarations_of g) × (desk.limits ≡ l)
+    by_case (inl found) = let going = (are.each 0 found.0 found.2).going in (going.graph, going.limits)
     by_case (inr none) = let one = formed.few.cores.0 in let some = none.0 in let count = are.count in absurd (omega (arith, one, some, count))
 
 -- where a turn has ended the run

@@ -1,9 +1,10 @@
 //! The run of a graph on one thread.
-ghost use Rattle.std.specs.Prelude.{◌≡◌, ◌<◌, ◌≤◌, ◌*◌, ◌+◌, ℕ, None, Some, IfOk, IfSome, length};
+ghost use Rattle.std.specs.Prelude.{◌≡◌, ◌<◌, ◌≤◌, ℕ, None, Some, IfOk, IfSome, length};
 ghost use Rattle.em_log.specs.declared.graph.Config.{Config as TheConfig};
 ghost use Rattle.em_log.specs.declared.ids.Limits.{Limits as TheLimits};
 ghost use Rattle.em_log.specs.Lawful.{Lawful};
 ghost use Rattle.em_log.specs.WellFormed.{IsWellFormed};
+ghost use Rattle.em_bounds.specs.Bound.{history_limit};
 ghost use Rattle.em_core.specs.declared.core_run.Step.{Step as TheStep};
 ghost use Rattle.em_core.specs.Steps.{unreplied, awaited, over};
 ghost use Rattle.em_body.specs.contracts.run.BodyRunWork.TheImpl.{ghosts};
@@ -24,7 +25,7 @@ use std::alloc::Global;
 /// Does nothing: its clauses say what the runs need of a desk's history.
 fn history_is_lawful(desk: &Desk)
     ensures lawful { Lawful desk.now.declarations desk.now.limits desk.now.past }
-    ensures few { length desk.now.past ≤ 260 * (1 + desk.now.limits.receives) }
+    ensures few { length desk.now.past ≤ history_limit desk.now.declarations desk.now.limits }
 {
     let _log = desk.log();
 }

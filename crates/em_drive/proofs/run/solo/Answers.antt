@@ -1,10 +1,11 @@
 use Rattle.std.proofs.Common.{◌≡◌, ℕ, ◌<◌, length, List, Option, Some, None, refl, sym, ap, ◌∙◌, subst, arith, slice_get, slice_index_or, IfSome}
 use Rattle.em_log.specs.declared.ids.EndKind.{EndKind}
-use Rattle.em_log.specs.declared.ids.Limits.{Limits}
+use Rattle.em_log.specs.Declarations.{declarations_of}
+use Rattle.em_bounds.specs.Bound.{history_limit}
 use Rattle.em_desk.specs.State.{DeskState}
 use Rattle.em_drive.specs.Going.{AreGoing, HasRounded}
 use Rattle.em_drive.specs.Runs.{IsRun}
-use Rattle.em_drive.proofs.Rounds.{new-going, kept-going, limits-of, order-below, order-at, round-goes-on, round-grows}
+use Rattle.em_drive.proofs.Rounds.{new-going, kept-going, desk-of, order-below, order-at, round-goes-on, round-grows}
 use Rattle.em_drive.proofs.run.solo.Goals as goal
 
 not-some : (o : Option EndKind) → ((end : EndKind) → o ≡ Some end → ⊥) → o ≡ None
@@ -23,8 +24,10 @@ loop-core-smaller g c =
     let grows = round-grows c.args.config.now c.args.limits c.loop-core.desk.past c.loop-core-2.desk.past c.args.order.now c.requires.well_formed c.requires.order
     (subst (λ (n : ℕ). HasRounded c.args.config.now c.args.limits c.loop-core.desk.past c.loop-core-2.desk.past c.args.order.now n) all c.loop-core-2.invariant.rounded) in
     let few = c.history_is_lawful.ensures.few in
-    let receives = ap (λ (m : Limits). m.receives) (limits-of c.args.config.now c.args.limits c.loop-core.desk c.loop-core.runs.items c.requires.well_formed c.loop-core.invariant) in
-    omega (arith, grows, few, receives)
+    let desk = desk-of c.args.config.now c.args.limits c.loop-core.desk c.loop-core.runs.items c.requires.well_formed c.loop-core.invariant in
+    let limit : history_limit c.loop-core.desk.declarations c.loop-core.desk.limits ≡ history_limit (declarations_of c.args.config.now) c.args.limits =
+    λ i. history_limit (desk.0 i) (desk.1 i) in
+    omega (arith, grows, few, limit)
 
 pub turn_of-requires-clause-core : goal.turn_of-requires-clause-core
 turn_of-requires-clause-core g c =
