@@ -1,2 +1,3 @@
 pub mod QueueSets
 pub mod Operations
+pub mod Endings

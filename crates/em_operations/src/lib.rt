@@ -16,6 +16,7 @@ ghost use Rattle.em_operations.specs.declared.operations.Operations.{Operations 
 
 mod begins;
 pub mod begun;
+pub mod endings;
 pub mod numbers;
 pub mod operations;
 pub mod queue_sets;
@@ -23,6 +24,7 @@ mod steps;
 mod targets;
 
 pub use begun::{BegunOperation, Owed};
+pub use endings::Ending;
 pub use operations::Operations;
 pub use queue_sets::QueueSets;
 

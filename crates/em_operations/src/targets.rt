@@ -28,8 +28,8 @@ impl Operations {
         ensures { (k : TheDeclarations) (o : List ObjectStep) (g : List GroupStep) (a : List AckStep) (b : List Operation) → StepsStand k self.old o g a b → StepsStand k self.new o (Began group.0 mask ∷ g) a b }
     {
         let _begun = self.groups.begin(group, mask);
-        let effective = self.groups.effective(group);
-        self.queues.mask(group, effective);
+        let shared = self.groups.effective(group);
+        self.queues.mask(group, shared);
     }
 
     /// The mask that the group is being given holds.
