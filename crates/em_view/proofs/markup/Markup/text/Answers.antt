@@ -1,0 +1,10 @@
+use Rattle.std.proofs.Common.{ℕ, List, ◌∙◌, sym, subst}
+use Rattle.em_view.specs.Markup.{IsContent}
+use Rattle.em_view.proofs.Contents.{put-formed, text-formed}
+use Rattle.em_view.proofs.markup.Markup.text.Goals as goal
+
+pub invariant_of-self : goal.invariant_of-self
+invariant_of-self c =
+    let is = c.as_slice.ensures.value ∙ c.in_ok-text.ensures in
+    let more = subst (λ (bs : List ℕ). ∥ IsContent bs ∥₁) (sym is) (text-formed c.args.text.now) in
+    record { formed = put-formed _ _ _ _ c.args.self.now.formed more c.extend_from_slice.ensures.items }
