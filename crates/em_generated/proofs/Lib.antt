@@ -1,0 +1,5 @@
+pub mod Numbers
+pub mod Names
+pub mod Order
+pub mod Bodies
+pub mod WellFormed

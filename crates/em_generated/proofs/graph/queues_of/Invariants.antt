@@ -1,0 +1,7 @@
+use Rattle.std.proofs.Common.{◌≡◌, map}
+use Rattle.std.specs.List.{range_with_len}
+use Rattle.em_generated.specs.Graph.{queue_of}
+use Rattle.em_generated.proofs.graph.queues_of.Given as goal
+
+abbrev pub invariant-loop-i : goal.invariant-loop-i
+invariant-loop-i l = l.queues ≡ map queue_of (range_with_len 0 l.i)
