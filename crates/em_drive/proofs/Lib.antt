@@ -22,3 +22,6 @@ pub mod Rounds
 pub mod Working
 pub mod WorkTakes
 pub mod WorkAsks
+pub mod WorkerLists
+pub mod LastEntries
+pub mod WorkedRuns

@@ -5,3 +5,4 @@ pub mod Runs
 pub mod Readings
 pub mod Going
 pub mod Driven
+pub mod Parallel

@@ -92,7 +92,7 @@ none-as-some (Some x) None is = absurd cc
 none-as-some (Some x) (Some y) is = refl
 
 module _ (k : Declarations) (l : Limits) (past : Past) (lawful : Lawful k l past) where
-  no-step : (c : ℕ) → c < k.cores → log.pending past (λ job. true) ≡ None → log.step k past c ≡ None
+  pub no-step : (c : ℕ) → c < k.cores → log.pending past (λ job. true) ≡ None → log.step k past c ≡ None
   no-step c lt none = by_step (log.step k past c) refl
     where
       by_step : (o : Option What) → log.step k past c ≡ o → o ≡ None
