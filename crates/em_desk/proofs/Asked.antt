@@ -35,6 +35,7 @@ use Rattle.em_desk.specs.declared.outcome.Outcome.{Outcome}
 use Rattle.em_desk.specs.declared.parts.Parts.{Parts}
 use Rattle.em_context_parts.specs.AtomicSteps.{atomic_steps, atomic_after, touches_atomics}
 use Rattle.em_context_parts.specs.EgroupSteps.{touches_egroups}
+use Rattle.em_context_parts.specs.OrderSteps.{touches_orders}
 use Rattle.em_context_parts.proofs.Untouched.{atomics-untouched}
 use Rattle.em_desk.specs.Atomics.{AtomicsStand}
 use Rattle.em_desk.specs.Acts.{said}
@@ -44,6 +45,7 @@ use Rattle.em_desk.specs.Served.{is_served_entry}
 use Rattle.em_desk.specs.Standing.{Stands, AreKept}
 use Rattle.em_desk.specs.State.{MayAsk, Adds, outcome_of}
 use Rattle.em_desk.proofs.GroupsKept.{groups-kept}
+use Rattle.em_desk.proofs.OrdersKept.{orders-kept}
 use Rattle.em_desk.proofs.Begun.{pushed, IsCause, IsAsked, asked-begun, at-rest, settled-pools, settled-queues, block-none, block-acts}
 
 abbrev pub steps_of : Parts → List PoolStep
@@ -68,18 +70,19 @@ pub settled-with : (p q : Parts) (c : ℕ) (a : Ask) (w : What) → Stands p →
     → p.pools.spare ≤ q.pools.spare + pays w
     → queues.Stands p.declarations q.queues (served_steps c w (queue_steps p.declarations p.history.past)) → shape q.queues ≡ shape p.queues
     → AtomicsStand p.declarations q.atomics (atomic_after p.declarations p.history.past c w (atomic_steps p.declarations p.history.past)) → touches_egroups w ≡ false
-    → AreKept p.declarations (entry_by c w ∷ p.history.past) q.kept
+    → touches_orders w ≡ false → AreKept p.declarations (entry_by c w ∷ p.history.past) q.kept
     → Stands (record p { history = pushed p c w; pools = q.pools; queues = q.queues; atomics = q.atomics; kept = q.kept })
-settled-with p q c a w s e served cause stands shapes spare lists same contexts no_group kept =
+settled-with p q c a w s e served cause stands shapes spare lists same contexts no_group no_order kept =
     at-rest (record p { history = pushed p c w; pools = q.pools; queues = q.queues; atomics = q.atomics; kept = q.kept }) c
-    (asked-begun p (record q { groups = p.groups }) c a w [] s e served cause tt stands shapes spare lists same contexts
-    (groups-kept p.declarations p.groups p.history.past c w no_group s.groups) tt kept)
+    (asked-begun p (record q { groups = p.groups; orders = p.orders }) c a w [] 0 s e served cause tt stands shapes spare lists same contexts
+    (groups-kept p.declarations p.groups p.history.past c w no_group s.groups) (orders-kept p.declarations p.orders p.history.past c w 0 no_order s.orders) tt kept)
 
--- an entry that takes nothing out of a queue, and leaves the atomic contexts and the event groups
+-- an entry that takes nothing out of a queue, and leaves the atomic contexts, the event groups and the tickets
 pub record TakesNothing (w : What) : Type 0 where
   pub queues : (c : ℕ) (t : List QueueStep) → served_steps c w t ≡ t
   pub atomics : touches_atomics w ≡ false
   pub groups : touches_egroups w ≡ false
+  pub orders : touches_orders w ≡ false
 
 pub settled : (p q : Parts) (c : ℕ) (a : Ask) (w : What) → Stands p → IsAsked p c a w → IsTrue (is_served_entry p.declarations w) → TakesNothing w
     → IsCause p.declarations p.history.past c w [] → pools.Stands q.pools (direct p.declarations p.history.past c w (steps_of p)) → q.pools.pools ≡ p.pools.pools
@@ -88,7 +91,7 @@ pub settled : (p q : Parts) (c : ℕ) (a : Ask) (w : What) → Stands p → IsAs
 settled p q c a w s e served none cause stands shapes spare kept =
     settled-with p (record q { queues = p.queues; atomics = p.atomics }) c a w s e served cause stands shapes spare
     (subst (queues.Stands p.declarations p.queues) (sym (none.queues c (queue_steps p.declarations p.history.past))) (settled-queues p 0 s)) refl
-    (subst (AtomicsStand p.declarations p.atomics) (sym (atomics-untouched p.declarations p.history.past c w (atomic_steps p.declarations p.history.past) none.atomics)) s.atomics) none.groups kept
+    (subst (AtomicsStand p.declarations p.atomics) (sym (atomics-untouched p.declarations p.history.past c w (atomic_steps p.declarations p.history.past) none.atomics)) s.atomics) none.groups none.orders kept
 
 pub adds-none : (p q : Parts) (c : ℕ) (a : Ask) (w : What) (o : Outcome) → q.history.past ≡ entry_by c w ∷ p.history.past
     → IsCause p.declarations p.history.past c w [] → w ≡ lead p.declarations p.history.past c a → o ≡ outcome_of w

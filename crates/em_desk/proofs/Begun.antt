@@ -38,7 +38,8 @@ use Rattle.em_desk.specs.Acts.{said, pool_acts, queue_acts, AreReady}
 use Rattle.em_desk.specs.Openings.{opening_at, opening_of}
 use Rattle.em_bounds.specs.Room.{needed, lefts}
 use Rattle.em_bounds.specs.Bound.{IsAfforded}
-use Rattle.em_desk.specs.Standing.{Standing, Stands, IsCore, AreKept}
+use Rattle.em_desk.specs.Orders.{OrdersStand}
+use Rattle.em_desk.specs.Standing.{Releasing, Standing, Stands, IsCore, AreKept}
 use Rattle.em_bounds.proofs.Room.{needed-lead}
 use Rattle.em_desk.proofs.Contexts.{opening-stays}
 
@@ -57,13 +58,14 @@ pub record IsCause (k : Declarations) (past : Past) (c : ℕ) (w : What) (acts :
   pub tail : tail_of k past (entry_by c w ∷ past) c w ≡ said acts
 
 -- the parts stand for what the entry mints, spends, takes and starts, and there is room for what it may cause
-pub record IsMade (p q : Parts) (c : ℕ) (w : What) (acts : List Act) : Type 0 where
+pub record IsMade (p q : Parts) (c : ℕ) (w : What) (acts : List Act) (n : ℕ) : Type 0 where
   pub pools : pools.Stands q.pools (direct p.declarations p.history.past c w (pool_steps p.declarations p.history.past))
   pub pool_shape : q.pools.pools ≡ p.pools.pools
   pub queues : queues.Stands p.declarations q.queues (served_steps c w (queue_steps p.declarations p.history.past))
   pub queue_shape : shape q.queues ≡ shape p.queues
   pub atomics : AtomicsStand p.declarations q.atomics (atomic_after p.declarations p.history.past c w (atomic_steps p.declarations p.history.past))
   pub groups : GroupsStand p.declarations q.groups (entry_by c w ∷ p.history.past)
+  pub orders : OrdersStand p.declarations q.orders (entry_by c w ∷ p.history.past) n
   pub ready : AreReady p.declarations (direct p.declarations p.history.past c w (pool_steps p.declarations p.history.past))
       (served_steps c w (queue_steps p.declarations p.history.past)) acts
   pub kept : AreKept p.declarations (entry_by c w ∷ p.history.past) q.kept
@@ -80,10 +82,10 @@ pub all-with : (p : Parts) (b c : ℕ) (w : What) → Standing p b [] → c < p.
 all-with p b c w s lt begins =
     (record { core = lt; next = subst (λ ds. IsNext p.declarations p.limits p.history.past ds (entry_by c w)) (sym s.due) begins }, s.all)
 
-pub begun : (p q : Parts) (b c : ℕ) (w : What) (acts : List Act) → Standing p b [] → c < p.declarations.cores
+pub begun : (p q : Parts) (b c : ℕ) (w : What) (acts : List Act) (n : ℕ) → Standing p b [] → c < p.declarations.cores
     → Begins p.declarations p.limits p.history.past c w → IsTrue (is_served_entry p.declarations w) → IsCause p.declarations p.history.past c w acts
-    → IsCore p.declarations c acts → IsMade p q c w acts → Standing (record (in_run p q) { history = pushed p c w }) c acts
-begun p q b c w acts s lt begins served cause core m =
+    → IsCore p.declarations c acts → IsMade p q c w acts n → Releasing (record (in_run p q) { history = pushed p c w }) c acts n
+begun p q b c w acts n s lt begins served cause core m =
     record {
       fixed = record { graph = s.fixed.graph; limits = s.fixed.limits; cores = s.fixed.cores; allowed = s.fixed.allowed };
       all = all-with p b c w s lt begins;
@@ -100,6 +102,7 @@ begun p q b c w acts s lt begins served cause core m =
       queue_shape = m.queue_shape ∙ s.queue_shape;
       atomics = m.atomics;
       groups = m.groups;
+      orders = m.orders;
       ready = m.ready;
       kept = m.kept;
       cores = m.cores ∙ s.cores;
@@ -148,6 +151,7 @@ at-rest p b s =
       queue_shape = s.queue_shape;
       atomics = s.atomics;
       groups = s.groups;
+      orders = s.orders;
       ready = tt;
       kept = s.kept;
       cores = s.cores;
@@ -199,18 +203,19 @@ asked-room p c a w s e =
     has-room-by p c w (all-with p 0 c w s e.core (Asks a e.may e.gives)) (let less = asked-needed p c a w s e in let r = s.room in omega (arith, less, r))
 
 -- where there was room for mintings, there is where the entry mints no more than it pays
-pub asked-begun : (p q : Parts) (c : ℕ) (a : Ask) (w : What) (acts : List Act) → Stands p → IsAsked p c a w → IsTrue (is_served_entry p.declarations w)
+pub asked-begun : (p q : Parts) (c : ℕ) (a : Ask) (w : What) (acts : List Act) (n : ℕ) → Stands p → IsAsked p c a w → IsTrue (is_served_entry p.declarations w)
     → IsCause p.declarations p.history.past c w acts → IsCore p.declarations c acts
     → pools.Stands q.pools (direct p.declarations p.history.past c w (pool_steps p.declarations p.history.past)) → q.pools.pools ≡ p.pools.pools
     → p.pools.spare ≤ q.pools.spare + pays w
     → queues.Stands p.declarations q.queues (served_steps c w (queue_steps p.declarations p.history.past)) → shape q.queues ≡ shape p.queues
     → AtomicsStand p.declarations q.atomics (atomic_after p.declarations p.history.past c w (atomic_steps p.declarations p.history.past))
     → GroupsStand p.declarations q.groups (entry_by c w ∷ p.history.past)
+    → OrdersStand p.declarations q.orders (entry_by c w ∷ p.history.past) n
     → AreReady p.declarations (direct p.declarations p.history.past c w (pool_steps p.declarations p.history.past)) (served_steps c w (queue_steps p.declarations p.history.past)) acts
     → AreKept p.declarations (entry_by c w ∷ p.history.past) q.kept
-    → Standing (record p { history = pushed p c w; pools = q.pools; queues = q.queues; atomics = q.atomics; groups = q.groups; kept = q.kept }) c acts
-asked-begun p q c a w acts s e served cause core stands shapes spare lists same contexts groups ready kept =
-    begun p (record p { pools = q.pools; queues = q.queues; atomics = q.atomics; groups = q.groups; kept = q.kept }) 0 c w acts s e.core (Asks a e.may e.gives) served cause core
+    → Releasing (record p { history = pushed p c w; pools = q.pools; queues = q.queues; atomics = q.atomics; groups = q.groups; orders = q.orders; kept = q.kept }) c acts n
+asked-begun p q c a w acts n s e served cause core stands shapes spare lists same contexts groups orders ready kept =
+    begun p (record p { pools = q.pools; queues = q.queues; atomics = q.atomics; groups = q.groups; orders = q.orders; kept = q.kept }) 0 c w acts n s e.core (Asks a e.may e.gives) served cause core
     (record {
       pools = stands;
       pool_shape = shapes;
@@ -218,6 +223,7 @@ asked-begun p q c a w acts s e served cause core stands shapes spare lists same 
       queue_shape = same;
       atomics = contexts;
       groups = groups;
+      orders = orders;
       ready = ready;
       kept = kept;
       cores = refl;

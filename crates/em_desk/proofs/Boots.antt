@@ -17,9 +17,10 @@ use Rattle.em_bounds.specs.Bound.{IsAfforded, context_need}
 use Rattle.em_bounds.proofs.Room.{lefts-more, other-left}
 use Rattle.em_desk.specs.Standing.{Stands}
 use Rattle.em_desk.proofs.Asked.{kept-same}
-use Rattle.em_desk.proofs.GroupsKept.{groups-kept}
 use Rattle.em_desk.proofs.Begun.{pushed, IsCause, begun, at-rest, all-with, HasRoom, has-room-by, settled-pools, settled-queues}
 use Rattle.em_desk.proofs.Contexts.{opening-other}
+use Rattle.em_desk.proofs.GroupsKept.{groups-kept}
+use Rattle.em_desk.proofs.OrdersKept.{orders-kept}
 use Rattle.em_desk.specs.Starts.{take_room}
 use Rattle.em_desk.proofs.Rooms.{lefts-none}
 
@@ -57,7 +58,7 @@ pub boot-stands : (p q : Parts) → Stands p → p.history.past ≡ [] → paid 
     → q.contexts.items ≡ slice_set p.contexts.items 0 Opening.Boot → Stands (record p { history = pushed p 0 boot; contexts = q.contexts })
 boot-stands p q s none room spare opens =
     at-rest (record p { history = pushed p 0 boot; contexts = q.contexts }) 0
-    (begun p (record p { contexts = q.contexts }) 0 0 boot [] s (boot-core p s) (Boots none refl refl) refl (boot-cause p.declarations p.history.past) tt
+    (begun p (record p { contexts = q.contexts }) 0 0 boot [] 0 s (boot-core p s) (Boots none refl refl) refl (boot-cause p.declarations p.history.past) tt
     (record {
       pools = settled-pools p 0 s;
       pool_shape = refl;
@@ -65,6 +66,7 @@ boot-stands p q s none room spare opens =
       queue_shape = refl;
       atomics = s.atomics;
       groups = groups-kept p.declarations p.groups p.history.past 0 boot refl s.groups;
+      orders = orders-kept p.declarations p.orders p.history.past 0 boot 0 refl s.orders;
       ready = tt;
       kept = kept-same p.declarations p.history.past (entry_by 0 boot ∷ p.history.past) p.kept (λ x. refl) s.kept;
       cores = ap length opens ∙ length-set p.contexts.items 0 Opening.Boot;

@@ -10,8 +10,11 @@ use Rattle.em_queues.specs.State.{shape}
 use Rattle.em_queues.specs.Stands as queues
 use Rattle.em_desk.specs.declared.opening.Opening.{Opening}
 use Rattle.em_desk.specs.declared.parts.Parts.{Parts}
+use Rattle.em_order.specs.State.{shape as shape_of_orders}
+use Rattle.em_order.specs.Stands as order
 use Rattle.em_desk.specs.Atomics.{AtomicsStand}
 use Rattle.em_desk.specs.Groups.{GroupsStand}
+use Rattle.em_desk.specs.Orders.{order_shape}
 use Rattle.em_desk.specs.Lines.{LinesState, list_at}
 use Rattle.em_desk.proofs.Rooms.{lefts-none}
 use Rattle.em_desk.specs.Standing.{Stands, IsFixed, AreKept, NoneTwice, shape_of}
@@ -38,10 +41,10 @@ kept-nothing k v lists room =
     empty x = ap (λ ls. slice_index_or ls x []) lists ∙ same-at (length k.running) x []
 
 pub built : (p : Parts) → IsFixed p → p.history.past ≡ [] → pools.Stands p.pools [] → p.pools.pools ≡ p.declarations.pools
-    → queues.Stands p.declarations p.queues [] → shape p.queues ≡ shape_of p.declarations → AtomicsStand p.declarations p.atomics [] → GroupsStand p.declarations p.groups []
+    → queues.Stands p.declarations p.queues [] → shape p.queues ≡ shape_of p.declarations → AtomicsStand p.declarations p.atomics [] → GroupsStand p.declarations p.groups [] → order.Stands p.orders [] → shape_of_orders p.orders ≡ order_shape p.declarations
     → p.kept.lists ≡ empty_lists (length p.declarations.running) → p.kept.room ≡ event_total p.declarations.pools
     → p.contexts.items ≡ replicate p.declarations.cores Opening.Closed → p.started ≡ 0 → Stands p
-built p fixed fresh pools shapes queues same contexts groups lists room closed none =
+built p fixed fresh pools shapes queues same contexts groups tickets order_shapes lists room closed none =
     let empty = lefts-none p.declarations in
     subst (λ (h : Past). Stands (record p { history = record p.history { past = h } })) (sym fresh)
     (record {
@@ -60,6 +63,7 @@ built p fixed fresh pools shapes queues same contexts groups lists room closed n
       queue_shape = same;
       atomics = contexts;
       groups = groups;
+      orders = record { steps = []; stands = tickets; lag = refl; shape = order_shapes };
       ready = tt;
       kept = kept-nothing p.declarations p.kept lists room;
       cores = ap length closed ∙ length-replicate p.declarations.cores Opening.Closed;

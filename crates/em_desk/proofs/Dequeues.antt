@@ -130,6 +130,7 @@ with-queues p v s stands same =
       queue_shape = same ∙ s.queue_shape;
       atomics = s.atomics;
       groups = s.groups;
+      orders = s.orders;
       ready = tt;
       kept = s.kept;
       cores = s.cores;

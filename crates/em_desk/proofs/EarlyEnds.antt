@@ -49,7 +49,7 @@ pub holds-none : (p : Parts) (c : ℕ) (cells : Cells) (o : Option AtomicId) →
 holds-none p c cells o s may answer =
     ap is_none (sym (answer (atomic_steps p.declarations p.history.past) s.atomics.contexts ∙ holds-is p c cells s may)) ∙ number-none o
 
-pub none-told : (o : Option AtomicId) (r : Bool) → is_some o ≡ not r → r ≡ is_none o
+pub none-told : {A : Type 0} (o : Option A) (r : Bool) → is_some o ≡ not r → r ≡ is_none o
 none-told None true h = refl
 none-told None false h = absurd cc
 none-told (Some a) true h = absurd cc

@@ -45,7 +45,7 @@ use Rattle.em_desk.proofs.Asked.{steps_of, own-lead}
 use Rattle.em_desk.proofs.Begun.{IsCause, IsAsked, settled-pools}
 use Rattle.em_desk.proofs.Distinct.{list-same, list-other, handle-at, once-more, below-more, few}
 use Rattle.em_desk.proofs.Sends.{IsOurs}
-use Rattle.em_desk.proofs.Unordered.{boot-or-receive}
+use Rattle.em_desk.proofs.Beginnings.{boot-or-receive}
 
 -- objects of queues
 

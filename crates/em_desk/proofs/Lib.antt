@@ -1,24 +1,29 @@
 mod Mapped
 pub mod Served
-pub mod Unordered
+mod Beginnings
 mod Unstamped
 mod OpenStamps
 mod Rooms
 mod Contexts
-mod Begun
 mod GroupsKept
+mod OrdersKept
+mod Begun
 mod Performed
 mod Listed
 mod Asked
 mod Distinct
 mod Minting
 mod Allocs
+mod OpenTickets
 mod Sends
 mod KeptEvents
+mod Below
+mod Releases
+mod Released
 mod Ends
 mod EarlyEnds
+mod EarlyOrders
 mod Made
-mod Below
 mod Fronts
 mod Dequeues
 mod Stages

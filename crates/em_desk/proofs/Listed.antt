@@ -20,7 +20,7 @@ use Rattle.em_queues.specs.Steps.{QueueStep, Arrived, Took, NextTaken, Untook, D
 use Rattle.em_parts.specs.QueueSteps.{queue_steps, served_steps, arrived_steps, item_steps}
 use Rattle.em_parts.specs.QueueAlike.{index_in}
 use Rattle.em_parts.proofs.QueueLists.{queues-alike, served-output}
-use Rattle.em_desk.proofs.Unordered.{taken-first}
+use Rattle.em_desk.proofs.Beginnings.{taken-first}
 
 pub data Located (k : Declarations) (past : Past) (i : ℕ) : Type 0 where
   InQueue : (q c : ℕ) → is_output (kind_of k q) ≡ false → has (map index_in (waiting k past q c)) i ≡ true → Located k past i

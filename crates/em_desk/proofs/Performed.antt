@@ -23,11 +23,12 @@ use Rattle.em_desk.specs.declared.acts.Act.{Act}
 use Rattle.em_desk.specs.declared.acts.Entrance.{Entrance}
 use Rattle.em_desk.specs.declared.parts.Parts.{Parts}
 use Rattle.em_desk.specs.Acts.{said, with_said, past_after, shifted_step, arrived_step, CanMove, CanEnter, MaySay, AreReady, act_index}
-use Rattle.em_desk.specs.Standing.{Standing, IsCore}
+use Rattle.em_desk.specs.Standing.{Releasing, IsCore}
 use Rattle.em_bounds.proofs.Room.{needed-out}
 use Rattle.em_desk.proofs.Contexts.{opening-stays}
 use Rattle.em_desk.proofs.Begun.{has-room-by}
 use Rattle.em_desk.proofs.GroupsKept.{groups-kept}
+use Rattle.em_desk.proofs.OrdersKept.{orders-kept}
 
 -- what is left can still be done
 
@@ -68,15 +69,15 @@ ready-after k s t i to e (a ∷ acts) apart ready =
       (ready.1.0, ready-after k s t i to e acts parts.1 ready.1.1),
     )
 
-core-tail : (k : Declarations) (c : ℕ) (acts : List Act) → c < k.cores → IsCore k c acts
+pub core-tail : (k : Declarations) (c : ℕ) (acts : List Act) → c < k.cores → IsCore k c acts
 core-tail k c [] lt = tt
 core-tail k c (a ∷ acts) lt = lt
 
 -- what a call of the parts needs
 
-pub can-shift : (p : Parts) (c : ℕ) (a : Act) (acts : List Act) → Standing p c (a ∷ acts)
+pub can-shift : (p : Parts) (c : ℕ) (a : Act) (acts : List Act) (n : ℕ) → Releasing p c (a ∷ acts) n
     → IfSome a.to (λ t. (a.index < event_total p.pools.pools) × (IsTrue (can_shift (place_at p.pools a.index)) × IsTrue (is_shift_target t)))
-can-shift p c a acts s = by_place a.to s.ready.0.moves
+can-shift p c a acts n s = by_place a.to s.ready.0.moves
   where
     by_place : (o : Option Place) → CanMove p.declarations s.pool a.index o
         → IfSome o (λ t. (a.index < event_total p.pools.pools) × (IsTrue (can_shift (place_at p.pools a.index)) × IsTrue (is_shift_target t)))
@@ -86,9 +87,9 @@ can-shift p c a acts s = by_place a.to s.ready.0.moves
       (subst (λ (x : Place). IsTrue (can_shift x)) (sym (s.pools.spots a.index)) h.1.0, h.1.1),
     )
 
-pub can-arrive : (p : Parts) (c : ℕ) (a : Act) (acts : List Act) → Standing p c (a ∷ acts)
+pub can-arrive : (p : Parts) (c : ℕ) (a : Act) (acts : List Act) (n : ℕ) → Releasing p c (a ∷ acts) n
     → IfSome a.enters (λ e. (e.queue.0 < (shape p.queues).queues) × ((e.core.0 < (shape p.queues).cores) × (is_listed_at p.queues a.index ≡ false)))
-can-arrive p c a acts s = by_entrance a.enters s.ready.0.enters
+can-arrive p c a acts n s = by_entrance a.enters s.ready.0.enters
   where
     by_entrance : (o : Option Entrance) → CanEnter p.declarations s.queue a.index o
         → IfSome o (λ e. (e.queue.0 < (shape p.queues).queues) × ((e.core.0 < (shape p.queues).cores) × (is_listed_at p.queues a.index ≡ false)))
@@ -102,42 +103,42 @@ can-arrive p c a acts s = by_entrance a.enters s.ready.0.enters
     )
 
 -- the entry that an act tells is the first that is due
-told-first : (p : Parts) (c : ℕ) (a : Act) (acts : List Act) (w : What) → Standing p c (a ∷ acts) → a.says ≡ Some w
+told-first : (p : Parts) (c : ℕ) (a : Act) (acts : List Act) (n : ℕ) (w : What) → Releasing p c (a ∷ acts) n → a.says ≡ Some w
     → due p.declarations p.history.past ≡ entry_by c w ∷ entries_by c (said acts)
-told-first p c a acts w s is = s.due ∙ ap (λ (x : Option What). entries_by c (with_said x (said acts))) is
+told-first p c a acts n w s is = s.due ∙ ap (λ (x : Option What). entries_by c (with_said x (said acts))) is
 
-told-all : (p : Parts) (c : ℕ) (a : Act) (acts : List Act) (w : What) → Standing p c (a ∷ acts) → a.says ≡ Some w
+told-all : (p : Parts) (c : ℕ) (a : Act) (acts : List Act) (n : ℕ) (w : What) → Releasing p c (a ∷ acts) n → a.says ≡ Some w
     → AllAllowed p.declarations p.limits (entry_by c w ∷ p.history.past)
-told-all p c a acts w s is =
-    (record { core = s.core; next = subst (λ ds. IsNext p.declarations p.limits p.history.past ds (entry_by c w)) (sym (told-first p c a acts w s is)) refl }, s.all)
+told-all p c a acts n w s is =
+    (record { core = s.core; next = subst (λ ds. IsNext p.declarations p.limits p.history.past ds (entry_by c w)) (sym (told-first p c a acts n w s is)) refl }, s.all)
 
 -- there is room for what an act tells
-pub can-say : (p : Parts) (c : ℕ) (a : Act) (acts : List Act) → Standing p c (a ∷ acts)
+pub can-say : (p : Parts) (c : ℕ) (a : Act) (acts : List Act) (n : ℕ) → Releasing p c (a ∷ acts) n
     → IfSome a.says (λ w. (length p.history.past + 1 ≤ p.history.capacity) × (pays w + paid p.history.past ≤ p.history.capacity))
-can-say p c a acts s = by_says a.says refl s.ready.0.says
+can-say p c a acts n s = by_says a.says refl s.ready.0.says
   where
     by_says : (o : Option What) → a.says ≡ o → MaySay o
         → IfSome o (λ w. (length p.history.past + 1 ≤ p.history.capacity) × (pays w + paid p.history.past ≤ p.history.capacity))
     by_says None is may = tt
     by_says (Some (What.Out q kind words)) is may =
-        let same = needed-out p.declarations p.history.past c q kind words (entry_by c (What.Out q kind words)) (entries_by c (said acts)) (told-first p c a acts _ s is) in
+        let same = needed-out p.declarations p.history.past c q kind words (entry_by c (What.Out q kind words)) (entries_by c (said acts)) (told-first p c a acts n _ s is) in
         let r = s.room in
-        let room = has-room-by p c (What.Out q kind words) (told-all p c a acts _ s is) (omega (arith, same, r)) in
+        let room = has-room-by p c (What.Out q kind words) (told-all p c a acts n _ s is) (omega (arith, same, r)) in
         (room.length, room.paid)
     by_says (Some w) is may = absurd may
 
 -- the act is done
-pub performed : (p q : Parts) (c : ℕ) (a : Act) (acts : List Act) → Standing p c (a ∷ acts)
+pub performed : (p q : Parts) (c : ℕ) (a : Act) (acts : List Act) (n : ℕ) → Releasing p c (a ∷ acts) n
     → ((s : List PoolStep) → pools.Stands p.pools s → pools.Stands q.pools (shifted_step a.index a.to s)) → q.pools.pools ≡ p.pools.pools → q.pools.spare ≡ p.pools.spare
     → ((k : Declarations) (t : List QueueStep) → queues.Stands k p.queues t → queues.Stands k q.queues (arrived_step a.index a.enters t)) → shape q.queues ≡ shape p.queues
-    → Standing (record p { history = record p.history { past = past_after c a.says p.history.past }; pools = q.pools; queues = q.queues }) c acts
-performed p q c a acts s pool_stands shapes spare queue_stands same = by_says a.says refl s.ready.0.says
+    → Releasing (record p { history = record p.history { past = past_after c a.says p.history.past }; pools = q.pools; queues = q.queues }) c acts n
+performed p q c a acts n s pool_stands shapes spare queue_stands same = by_says a.says refl s.ready.0.says
   where
     ready : AreReady p.declarations (shifted_step a.index a.to s.pool) (arrived_step a.index a.enters s.queue) acts
     ready = ready-after p.declarations s.pool s.queue a.index a.to a.enters acts s.ready.1.0 s.ready.1.1
 
     by_says : (o : Option What) → a.says ≡ o → MaySay o
-        → Standing (record p { history = record p.history { past = past_after c o p.history.past }; pools = q.pools; queues = q.queues }) c acts
+        → Releasing (record p { history = record p.history { past = past_after c o p.history.past }; pools = q.pools; queues = q.queues }) c acts n
     by_says None is may =
         record {
           fixed = record { graph = s.fixed.graph; limits = s.fixed.limits; cores = s.fixed.cores; allowed = s.fixed.allowed };
@@ -155,6 +156,7 @@ performed p q c a acts s pool_stands shapes spare queue_stands same = by_says a.
           queue_shape = same ∙ s.queue_shape;
           atomics = s.atomics;
           groups = s.groups;
+          orders = s.orders;
           ready = ready;
           kept = s.kept;
           cores = s.cores;
@@ -167,11 +169,11 @@ performed p q c a acts s pool_stands shapes spare queue_stands same = by_says a.
         }
     by_says (Some (What.Out r kind words)) is may =
         let e : Entry = entry_by c (What.Out r kind words) in
-        let first : due p.declarations p.history.past ≡ e ∷ entries_by c (said acts) = told-first p c a acts (What.Out r kind words) s is in
+        let first : due p.declarations p.history.past ≡ e ∷ entries_by c (said acts) = told-first p c a acts n (What.Out r kind words) s is in
         let sum = needed-out p.declarations p.history.past c r kind words e (entries_by c (said acts)) first in
         record {
           fixed = record { graph = s.fixed.graph; limits = s.fixed.limits; cores = s.fixed.cores; allowed = s.fixed.allowed };
-          all = told-all p c a acts (What.Out r kind words) s is;
+          all = told-all p c a acts n (What.Out r kind words) s is;
           served = (refl, s.served);
           core = core-tail p.declarations c acts s.core;
           due = ap (λ ds. due_after ds (tail p.declarations p.history.past e)) first;
@@ -185,6 +187,7 @@ performed p q c a acts s pool_stands shapes spare queue_stands same = by_says a.
           queue_shape = same ∙ s.queue_shape;
           atomics = s.atomics;
           groups = groups-kept p.declarations p.groups p.history.past c (What.Out r kind words) refl s.groups;
+          orders = orders-kept p.declarations p.orders p.history.past c (What.Out r kind words) n refl s.orders;
           ready = ready;
           kept = record { count = s.kept.count; room = s.kept.room; lists = s.kept.lists; once = s.kept.once; below = s.kept.below };
           cores = s.cores;

@@ -31,6 +31,7 @@ use Rattle.em_desk.specs.State.{DeskState, state_of, IsWaited, Busy, Other as Ot
 use Rattle.em_desk.proofs.Ended.{boot-over, booting-at, idle-is, open-at, rests}
 use Rattle.em_desk.proofs.Numbers.{some-below}
 use Rattle.em_desk.proofs.Ready.{promised-is}
+use Rattle.em_desk.proofs.OpenTickets.{next_number}
 use Rattle.em_desk.proofs.Receives.{IsFirst, take_of}
 use Rattle.em_desk.proofs.Served.{no-step}
 use Rattle.em_desk.proofs.Stages.{boot-open}
@@ -67,8 +68,8 @@ pub over-by : (p : Parts) (os : List Opening) (e b : Bool) → Stands p → e �
     → b ≡ is_boot (opening_at os 0) → b ≡ false → boot_ended p.history.past ≡ true
 over-by p os e b s empty some same is off = boot-over p s (boots-by p os b false same is off) (some-entries p.history.past e empty some)
 
-abbrev pub receive_of : QueueId → EoId → Event → Option Cells → Context
-receive_of q x e cells = Context.Receive (record { queue = q; eo = x; event = e; stamp = None; ticket = None; cells = cells; rest = [] })
+abbrev pub receive_of : QueueId → EoId → Event → Option ℕ → Option Cells → Context
+receive_of q x e n cells = Context.Receive (record { queue = q; eo = x; event = e; stamp = None; ticket = n; cells = cells; rest = [] })
 
 -- the core owes no step
 unowed : (p : Parts) (n : ℕ) (answer : Answer) (r : Reply) → Stands p → r ≡ record { answer = answer; owed = false } → r.owed ≡ is_some (step p.declarations p.history.past n)
@@ -156,9 +157,9 @@ waits-or-rests p n s over none idle = by_closed (list_all is_closed p.contexts.i
         other-core p n s over all none u.0 u.1
 
 -- an event is taken
-pub receives-now : (p : Parts) (n : ℕ) (q : QueueId) (context : Context) (now : Past) → Stands p → boot_ended p.history.past ≡ true
-    → is_choice p.declarations p.limits p.history.past n q.0 ≡ true → IsFirst p n q → now ≡ block p.declarations p.history.past (entry_by n (take_of q))
+pub receives-now : (p : Parts) (n : ℕ) (q : QueueId) (t : Option ℕ) (context : Context) (now : Past) → Stands p → boot_ended p.history.past ≡ true
+    → is_choice p.declarations p.limits p.history.past n q.0 ≡ true → IsFirst p n q → t ≡ next_number p q → now ≡ block p.declarations p.history.past (entry_by n (take_of q t))
     → context_told p.declarations now n ≡ Some context → Takes p.declarations p.limits false p.history.past n (Answer.Context context) now
-receives-now p n q context now s over choice f is told =
+receives-now p n q t context now s over choice f number is told =
     Receives q.0 context refl over (no-step p.declarations p.history.past n s.served) choice
-    (is ∙ ap (λ (w : What). block p.declarations p.history.past (entry_by n w)) (sym f.take)) told refl
+    (is ∙ ap (λ (w : What). block p.declarations p.history.past (entry_by n w)) (ap (take_of q) number ∙ sym f.take)) told refl

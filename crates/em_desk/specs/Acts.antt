@@ -10,7 +10,9 @@ use Rattle.em_pool.specs.declared.place.Place.{Place}
 use Rattle.em_pool.specs.Steps.{PoolStep, Shifted}
 use Rattle.em_pool.specs.Places.{can_shift, is_shift_target}
 use Rattle.em_pool.specs.Spots.{spot}
+use Rattle.em_pool.specs.Handles.{last_event}
 use Rattle.em_queues.specs.Steps.{QueueStep, Arrived, is_listed}
+use Rattle.em_order.specs.declared.item_list.Item.{Item}
 use Rattle.em_desk.specs.declared.acts.Act.{Act}
 use Rattle.em_desk.specs.declared.acts.Entrance.{Entrance}
 
@@ -88,3 +90,27 @@ send_act k e c w q =
     if is_output (kind_of k q.0)
     then record { index = index_of w; to = Some Place.Free; enters = None; says = out_said q e }
     else record { index = index_of w; to = None; enters = Some (record { queue = q; core = record { 0 = c } }); says = None }
+
+-- a release
+
+-- what the release of a held send, whose event this is, has still to do
+abbrev pub release_act : Declarations → Event → Item → Act
+release_act k e i =
+    let out = is_output (kind_of k i.queue.0) in
+    record {
+      index = i.index;
+      to = Some (if out then Place.Free else Place.Waiting i.queue);
+      enters = if out then None else Some (record { queue = i.queue; core = i.core });
+      says = if out then out_said i.queue e else None;
+    }
+
+pub record IsRelease (k : Declarations) (s : List PoolStep) (i : Item) (a : Act) : Type 0 where
+  pub event : Event
+  pub known : last_event s i.index ≡ Some event
+  pub act : a ≡ release_act k event i
+
+-- these acts release these items, in order
+abbrev pub AreReleases : Declarations → List PoolStep → List Item → List Act → Type 0
+AreReleases k s [] [] = Unit {0}
+AreReleases k s (i ∷ is) (a ∷ acts) = IsRelease k s i a × AreReleases k s is acts
+AreReleases k s is acts = ⊥

@@ -5,6 +5,7 @@ pub mod Openings
 pub mod Lines
 pub mod Histories
 pub mod Atomics
+pub mod Orders
 pub mod Acts
 pub mod Groups
 pub mod Standing

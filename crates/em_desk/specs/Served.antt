@@ -1,5 +1,5 @@
 -- The asks that the desk serves, and the histories of such asks alone.
-use Rattle.std.specs.Prelude.{ℕ, Bool, true, false, not, ◌&&◌, List, [], ◌∷◌, Option, Some, None, is_none, IsTrue}
+use Rattle.std.specs.Prelude.{ℕ, Bool, true, false, List, [], ◌∷◌, Option, Some, None, is_none, IsTrue}
 use Rattle.std.specs.Option.{option_map, option_map_or}
 use Rattle.em_log.specs.declared.declarations.Declarations.{Declarations}
 use Rattle.em_log.specs.declared.ask.Ask.{Ask}
@@ -7,16 +7,11 @@ use Rattle.em_log.specs.declared.entry.Begun.{Begun}
 use Rattle.em_log.specs.declared.entry.What.{What}
 use Rattle.em_log.specs.declared.ids.Note.{Note}
 use Rattle.em_log.specs.History.{Past}
-use Rattle.em_log.specs.Declarations.{kind_of, is_ordered}
 use Rattle.em_log.specs.States.{closed}
 
--- a receive of such a queue has no ticket
-abbrev pub is_free_of_order : Declarations → ℕ → Bool
-is_free_of_order k q = not (is_ordered (kind_of k q))
-
--- whether the desk serves sends to the queue: it is such a one, and open as it is declared
+-- whether the desk serves sends to the queue: it is open as it is declared
 abbrev pub serves_queue : Declarations → ℕ → Bool
-serves_queue k q = is_free_of_order k q && is_none (closed k [] q)
+serves_queue k q = is_none (closed k [] q)
 
 -- whether the desk serves the ask
 abbrev pub served : Declarations → Ask → Bool
@@ -29,6 +24,7 @@ served k (Ask.Dequeue q) = true
 served k Ask.Cell = true
 served k (Ask.Say v) = true
 served k (Ask.EndAtomic cells) = true
+served k Ask.EndOrdered = true
 served k (Ask.End cells) = true
 served k ask = false
 

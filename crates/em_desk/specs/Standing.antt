@@ -1,4 +1,4 @@
--- How the parts stand for a history in the middle of an ask: core c has still to do these acts.
+-- How the parts stand for a history in the middle of an ask: core c has still to do these acts, and to release n held sends.
 use Rattle.std.specs.Prelude.{ℕ, ◌≡◌, ◌≤◌, ◌<◌, false, List, [], ◌∷◌, length, map}
 use Rattle.std.specs.List.{AllByRecursion}
 use Rattle.em_log.specs.declared.declarations.Declarations.{Declarations}
@@ -19,9 +19,10 @@ use Rattle.em_desk.specs.declared.desk.Desk.TheInside.{Inside}
 use Rattle.em_context_parts.specs.AtomicSteps.{atomic_steps}
 use Rattle.em_desk.specs.Atomics.{AtomicsStand}
 use Rattle.em_desk.specs.Graphs.{AreInBounds, AreInRange}
-use Rattle.em_desk.specs.Groups.{GroupsStand}
 use Rattle.em_desk.specs.Served.{AllServed}
-use Rattle.em_desk.specs.Acts.{said, pool_acts, queue_acts, AreReady}
+use Rattle.em_desk.specs.Groups.{GroupsStand}
+use Rattle.em_desk.specs.Orders.{OrdersStand}
+use Rattle.em_desk.specs.Acts.{said, pool_acts, queue_acts, AreReady, AreReleases}
 use Rattle.em_desk.specs.Lines.{LinesState, list_at}
 use Rattle.em_desk.specs.Openings.{opening_at, opening_of}
 use Rattle.em_bounds.specs.Room.{needed, lefts}
@@ -56,7 +57,7 @@ pub record AreKept (k : Declarations) (past : Past) (v : LinesState) : Type 0 wh
 abbrev pub shape_of : Declarations → Shape
 shape_of k = record { cores = k.cores; queues = length k.queues; events = event_total k.pools }
 
-pub record Standing (p : Parts) (c : ℕ) (acts : List Act) : Type 0 where
+pub record Releasing (p : Parts) (c : ℕ) (acts : List Act) (n : ℕ) : Type 0 where
   pub fixed : IsFixed p
   pub all : AllAllowed p.declarations p.limits p.history.past
   pub served : AllServed p.declarations p.history.past
@@ -73,6 +74,7 @@ pub record Standing (p : Parts) (c : ℕ) (acts : List Act) : Type 0 where
   pub queue_shape : shape p.queues ≡ shape_of p.declarations
   pub atomics : AtomicsStand p.declarations p.atomics (atomic_steps p.declarations p.history.past)
   pub groups : GroupsStand p.declarations p.groups p.history.past
+  pub orders : OrdersStand p.declarations p.orders p.history.past n
   pub ready : AreReady p.declarations pool queue acts
   pub kept : AreKept p.declarations p.history.past p.kept
   pub cores : length p.contexts.items ≡ p.declarations.cores
@@ -84,6 +86,14 @@ pub record Standing (p : Parts) (c : ℕ) (acts : List Act) : Type 0 where
   pub mintable : lefts p.declarations p.history.past ≤ p.pools.spare
   -- each ask was afforded, which bounds the history
   pub afforded : AllAfforded p.declarations p.history.past
+
+abbrev pub Standing : Parts → ℕ → List Act → Type 0
+Standing p c acts = Releasing p c acts 0
+
+-- the acts are the releases of all that the end of a ticket has let in
+pub record IsReleasing (p : Parts) (c : ℕ) (acts : List Act) : Type 0 where
+  pub standing : Releasing p c acts (length p.orders.due)
+  pub releases : AreReleases p.declarations (pool_steps p.declarations p.history.past) p.orders.due acts
 
 -- between asks nothing is left to do
 abbrev pub Stands : Parts → Type 0

@@ -3,23 +3,24 @@ ghost use Rattle.std.specs.Prelude.{◌≡◌, ◌+◌, ◌≤◌, ◌∷◌, �
 ghost use Rattle.em_log.specs.declared.declarations.Declarations.{Declarations as TheDeclarations};
 ghost use Rattle.em_log.specs.declared.entry.Event.{Event as TheEvent};
 ghost use Rattle.em_log.specs.Declarations.{event_total};
-ghost use Rattle.em_log.specs.History.{index_of as index_of_handle};
+ghost use Rattle.em_log.specs.History.{index_of as index_of_handle, entries_by, onto};
 ghost use Rattle.em_bounds.specs.Paid.{paid, pays};
 ghost use Rattle.em_pool.specs.Steps.{PoolStep};
 ghost use Rattle.em_pool.specs.Places.{can_shift, is_shift_target};
 ghost use Rattle.em_pool.specs.Stands as pool;
-ghost use Rattle.em_pool.specs.State.{rule_at, event_at, place_at};
+ghost use Rattle.em_pool.specs.State.{rule_at, event_at, generation_at, place_at};
 ghost use Rattle.em_queues.specs.Steps.{QueueStep};
 ghost use Rattle.em_queues.specs.State.{shape, is_listed_at};
 ghost use Rattle.em_queues.specs.Stands as queue;
 ghost use Rattle.em_desk.specs.declared.acts.Act.{Act as TheAct};
-ghost use Rattle.em_desk.specs.Acts.{shifted_step, arrived_step, past_after, send_act};
-ghost use Rattle.em_desk.specs.Standing.{Standing};
+ghost use Rattle.em_desk.specs.Acts.{shifted_step, arrived_step, past_after, send_act, release_act, said};
+ghost use Rattle.em_desk.specs.Standing.{Releasing, IsReleasing, Stands};
 
 use crate::history::History;
 use crate::parts::Parts;
 use crate::shapes::{index_of, is_output};
 use em_log::{CoreId, Declarations, QueueId, What};
+use em_order::Item;
 use em_pool::{Place, Pools};
 use em_queues::Queues;
 
@@ -76,11 +77,12 @@ fn say(history: &mut History, core: CoreId, says: Option<What>)
 impl Parts {
     /// Does one thing that is left to do in the core's ask.
     pub fn perform(&mut self, core: CoreId, act: Act)
-        requires { (acts : List TheAct) × Standing self.old core.0 (act ∷ acts) }
-        ensures stands { (acts : List TheAct) → Standing self.old core.0 (act ∷ acts) → Standing self.new core.0 acts }
+        requires { (acts : List TheAct) × (n : ℕ) × Releasing self.old core.0 (act ∷ acts) n }
+        ensures stands { (acts : List TheAct) (n : ℕ) → Releasing self.old core.0 (act ∷ acts) n → Releasing self.new core.0 acts n }
         ensures past { self.new.history.past ≡ past_after core.0 act.says self.old.history.past }
         ensures declarations { self.new.declarations ≡ self.old.declarations }
         ensures limits { self.new.limits ≡ self.old.limits }
+        ensures orders { self.new.orders ≡ self.old.orders }
     {
         let Act {
             index,
@@ -91,6 +93,51 @@ impl Parts {
         shift(&mut self.pools, index, to);
         enter(&mut self.queues, index, enters);
         say(&mut self.history, core, says);
+    }
+
+    /// Lets in, by the end of the core's ticket, what it has released.
+    pub fn release(&mut self, core: CoreId)
+        requires { (acts : List TheAct) × IsReleasing self.old core.0 acts }
+        ensures stands { Stands self.new }
+        ensures past { (acts : List TheAct) → IsReleasing self.old core.0 acts → self.new.history.past ≡ onto (entries_by core.0 (said acts)) self.old.history.past }
+        ensures declarations { self.new.declarations ≡ self.old.declarations }
+        ensures limits { self.new.limits ≡ self.old.limits }
+    {
+        while let Some(item) = self.orders.released() {
+            let act = releasing(&self.declarations, &self.pools, item);
+            self.perform(core, act);
+        }
+    }
+}
+
+/// What the release of a held send has still to do.
+fn releasing(declarations: &Declarations, pools: &Pools, item: Item) -> Act
+    requires within { item.index < event_total pools.now.pools }
+    requires minted { 1 ≤ generation_at pools.now item.index }
+    ensures { (e : TheEvent) → event_at pools.now item.index ≡ Some e → result ≡ release_act declarations.now e item }
+{
+    let Item { index, queue, core } = item;
+    if is_output(declarations, queue) {
+        let event = pools.event(index);
+        let to = Some(Place::Free);
+        Act {
+            index,
+            to,
+            enters: None,
+            says: Some(What::Out {
+                queue,
+                kind: event.kind,
+                words: event.words,
+            }),
+        }
+    } else {
+        let entrance = Entrance { queue, core };
+        Act {
+            index,
+            to: Some(Place::Waiting(queue)),
+            enters: Some(entrance),
+            says: None,
+        }
     }
 }
 

@@ -11,7 +11,9 @@ use crate::opening::{Opening, object_in, receiver};
 use crate::outcome::Outcome;
 use crate::parts::Parts;
 use crate::shapes::index_of;
+use crate::tickets::{open_number, spending};
 use em_log::{Ask, Call, Cells, CoreId, Event, Fault, Handle, PoolId, QueueId, What, Words};
+use em_order::{Item, Way};
 use em_pool::Spend;
 
 impl Parts {
@@ -32,6 +34,7 @@ impl Parts {
             Ask::Cell => self.cell(core),
             Ask::Say(value) => self.say(core, value),
             Ask::EndAtomic(cells) => self.end_atomic(core, cells),
+            Ask::EndOrdered => self.end_ordered(core),
             Ask::End(cells) => self.end(core, cells),
             _ => Outcome::Done,
         }
@@ -92,7 +95,7 @@ impl Parts {
         Outcome::Done
     }
 
-    /// Sends the event of this handle to the queue.
+    /// Sends the event of this handle to the queue, which it enters unless the core's ticket holds it back.
     fn send(&mut self, core: CoreId, word: u64, queue: QueueId) -> Outcome
         requires stands { Stands self.old }
         requires may { MayAsk self.old.declarations self.old.history.past core.0 (TheAsk.Send word queue None) }
@@ -103,17 +106,23 @@ impl Parts {
             return self.refuse(core, Call::Send, fault);
         }
         let place = self.history.place();
+        let ticket = open_number(&self.orders, core);
+        let index = index_of(word);
+        let way = self.orders.send(core, Item { index, queue, core });
         let act = sending(&self.declarations, &self.pools, core, word, queue);
-        self.pools.spend(core, word, Spend::Sent(queue), place);
+        self.pools.spend(core, word, spending(way, queue), place);
         self.history.push(
             core,
             What::Send {
                 handle: Handle(word),
                 queue,
-                ticket: None,
+                ticket,
                 stamp: None,
             },
         );
+        if let Way::Held(_) = way {
+            return Outcome::Done;
+        }
         self.perform(core, act);
         Outcome::Done
     }
@@ -218,7 +227,24 @@ impl Parts {
         Outcome::Done
     }
 
-    /// Ends the context: what it holds is lost, and its atomic context is free again.
+    /// Ends the ticket of the context early, and lets in what no open ticket holds back any more.
+    fn end_ordered(&mut self, core: CoreId) -> Outcome
+        requires stands { Stands self.old }
+        requires may { MayAsk self.old.declarations self.old.history.past core.0 TheAsk.EndOrdered }
+        ensures stands { Stands self.new }
+        ensures adds { Adds self.old self.new core.0 (lead self.old.declarations self.old.history.past core.0 TheAsk.EndOrdered) result }
+    {
+        if self.orders.open_ticket(core).is_none() {
+            return self.refuse(core, Call::EndOrdered, Fault::NotOrdered);
+        }
+        let _over = self.orders.finish(core);
+        self.history.push(core, What::EndOrdered);
+        self.release(core);
+        Outcome::Done
+    }
+
+    /// Ends the context: what it holds is lost, its atomic context is free again, and what no open ticket holds back any
+    /// more is let in.
     fn end(&mut self, core: CoreId, cells: Option<Cells>) -> Outcome
         requires stands { Stands self.old }
         requires may { MayAsk self.old.declarations self.old.history.past core.0 (TheAsk.End cells) }
@@ -228,8 +254,10 @@ impl Parts {
         let place = self.history.place();
         let lost = self.pools.lose(core, place);
         self.atomics.give_back(core, cells);
+        let _ended = self.orders.finish(core);
         self.history.push(core, What::End { lost, cells });
         self.contexts[usize::from(core.0)] = Opening::Closed;
+        self.release(core);
         Outcome::Done
     }
 }

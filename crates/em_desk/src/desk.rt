@@ -28,6 +28,7 @@ use em_egroups::EventGroups;
 use em_log::{
     Answer, Ask, Config, Context, CoreId, EndKind, Entry, Limits, Locals, NoMemory, Reply, declare,
 };
+use em_order::Orders;
 use em_pool::Pools;
 use em_queues::Queues;
 use std::alloc::Global;
@@ -64,6 +65,7 @@ impl Desk {
         let queues = Queues::build(alloc, config)?;
         let atomics = AtomicQueues::build(alloc, config, &declarations)?;
         let groups = EventGroups::build(alloc, config)?;
+        let orders = Orders::build(alloc, config)?;
         let events = event_count(&declarations);
         let kept = Lines::build(alloc, declarations.running.as_slice().len() as u16, events)?;
         let contexts = closed(alloc, declarations.cores)?;
@@ -77,6 +79,7 @@ impl Desk {
                 queues,
                 atomics,
                 groups,
+                orders,
                 kept,
                 contexts,
                 started: 0,
@@ -115,9 +118,13 @@ impl Desk {
         let Some(queue) = self.parts.choice(core) else {
             return Ok(told(rest(self.parts.end_kind())));
         };
-        let Received { event, cells } = self.parts.receive(core, queue);
+        let Received {
+            event,
+            ticket,
+            cells,
+        } = self.parts.receive(core, queue);
         let object = object_of(&self.parts.declarations, queue);
-        Ok(told(received(queue, object, event, cells)))
+        Ok(told(received(queue, object, event, ticket, cells)))
     }
 
     /// An ask of the core's open context, which has enough left of its allowance. It adds the entry that the ask gives

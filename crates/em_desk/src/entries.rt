@@ -27,16 +27,22 @@ pub fn rest(ended: Option<EndKind>) -> Answer
     }
 }
 
-/// The context of a receive with no ticket or further events.
-pub fn received(queue: QueueId, eo: EoId, event: Event, cells: Option<Cells>) -> Answer
-    ensures { result ≡ TheAnswer.Context (TheContext.Receive (record { queue = queue; eo = eo; event = event; stamp = None; ticket = None; cells = cells; rest = [] })) }
+/// The context of a receive with no further events.
+pub fn received(
+    queue: QueueId,
+    eo: EoId,
+    event: Event,
+    ticket: Option<u32>,
+    cells: Option<Cells>,
+) -> Answer
+    ensures { result ≡ TheAnswer.Context (TheContext.Receive (record { queue = queue; eo = eo; event = event; stamp = None; ticket = ticket; cells = cells; rest = [] })) }
 {
     Answer::Context(Context::Receive(Receive {
         queue,
         eo,
         event,
         stamp: None,
-        ticket: None,
+        ticket,
         cells,
         rest: Rest::new(),
     }))

@@ -15,6 +15,7 @@ mod outcome;
 mod parts;
 mod shapes;
 mod takes;
+mod tickets;
 
 pub use desk::Desk;
 pub use laws::well_formed_is_in_bounds;

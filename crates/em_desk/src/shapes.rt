@@ -1,6 +1,6 @@
 //! What the desk reads of a graph's declarations, and of a handle.
 ghost use Rattle.std.specs.Prelude.{◌≡◌, ◌≤◌};
-ghost use Rattle.em_log.specs.Declarations.{event_total, kind_of, is_output as is_output_kind, object_of as object_of_queue};
+ghost use Rattle.em_log.specs.Declarations.{event_total, kind_of, is_output as is_output_kind, is_ordered as is_ordered_kind, object_of as object_of_queue};
 ghost use Rattle.em_log.specs.History.{index_of as index_of_handle};
 ghost use Rattle.em_log.specs.Answers.{object_id};
 
@@ -34,6 +34,16 @@ pub fn is_output(declarations: &Declarations, queue: QueueId) -> bool
 {
     match declarations.queues.as_slice().get(usize::from(queue.0)) {
         Some(shape) => matches!(shape.kind, Kind::Output),
+        None => false,
+    }
+}
+
+/// Whether the queue is ordered.
+pub fn is_ordered(declarations: &Declarations, queue: QueueId) -> bool
+    ensures { result ≡ is_ordered_kind (kind_of declarations.now queue.0) }
+{
+    match declarations.queues.as_slice().get(usize::from(queue.0)) {
+        Some(shape) => matches!(shape.kind, Kind::Ordered),
         None => false,
     }
 }

@@ -4,7 +4,7 @@ ghost use Rattle.em_log.specs.declared.entry.Body.{Body as TheBody};
 ghost use Rattle.em_log.specs.declared.entry.What.{What as TheWhat};
 ghost use Rattle.em_log.specs.Contexts.{boot_ended, context};
 ghost use Rattle.em_log.specs.History.{entry_by};
-ghost use Rattle.em_log.specs.Eligible.{is_choice};
+ghost use Rattle.em_log.specs.Eligible.{is_choice, ticket_drawn};
 ghost use Rattle.em_log.specs.Answers.{block, context_told, end_of, has_choice, object_id};
 ghost use Rattle.em_log.specs.Declarations.{object_of as object_of_queue};
 ghost use Rattle.em_log.specs.declared.ask.Context.{Context as TheContext};
@@ -26,6 +26,7 @@ use crate::choices::any_ready;
 use crate::opening::{Opening, are_closed};
 use crate::parts::Parts;
 use crate::shapes::object_of;
+use crate::tickets::draw;
 use em_log::{Body, Cells, CoreId, EndKind, Event, MAX_CORES, NoMemory, QueueId, What};
 use em_pool::{Place, Pools};
 use em_queues::Queues;
@@ -34,10 +35,12 @@ use em_queues::Queues;
 /// each, and the allowance of each core.
 const ROOM: usize = 4 + 256 * MAX_CORES as usize;
 
-/// What a receive comes with: its event, and the cells of its atomic context, if it has one.
+/// What a receive comes with: its event, the number of its ticket, if it draws one, and the cells of its atomic context, if
+/// it has one.
 #[derive(Drop)]
 pub struct Received {
     pub event: Event,
+    pub ticket: Option<u32>,
     pub cells: Option<Cells>,
 }
 
@@ -123,7 +126,8 @@ impl Parts {
         None
     }
 
-    /// Takes the first event that waits for the core in the queue, with the atomic context of the queue, and starts its receive.
+    /// Takes the first event that waits for the core in the queue, with a ticket and the atomic context of
+    /// the queue, and starts its receive.
     pub fn receive(&mut self, core: CoreId, queue: QueueId) -> Received
         requires stands { Stands self.old }
         requires choice { is_choice self.old.declarations self.old.limits self.old.history.past core.0 queue.0 ≡ true }
@@ -131,17 +135,19 @@ impl Parts {
         requires history { paid self.old.history.past + take_room ≤ self.old.history.capacity }
         requires mintings { take_room ≤ self.old.pools.spare }
         ensures stands { Stands self.new }
-        ensures past { self.new.history.past ≡ block self.old.declarations self.old.history.past (entry_by core.0 (TheWhat.Take queue 1 None)) }
-        ensures told { context_told self.old.declarations self.new.history.past core.0 ≡ Some (TheContext.Receive (record { queue = queue; eo = object_id (object_of_queue self.old.declarations queue.0); event = result.event; stamp = None; ticket = None; cells = result.cells; rest = [] })) }
+        ensures past { self.new.history.past ≡ block self.old.declarations self.old.history.past (entry_by core.0 (TheWhat.Take queue 1 result.ticket)) }
+        ensures number { result.ticket ≡ ticket_drawn self.old.declarations self.old.history.past queue.0 }
+        ensures told { context_told self.old.declarations self.new.history.past core.0 ≡ Some (TheContext.Receive (record { queue = queue; eo = object_id (object_of_queue self.old.declarations queue.0); event = result.event; stamp = None; ticket = result.ticket; cells = result.cells; rest = [] })) }
         ensures declarations { self.new.declarations ≡ self.old.declarations }
         ensures limits { self.new.limits ≡ self.old.limits }
     {
+        let ticket = draw(&self.declarations, &mut self.orders, queue, core);
         self.history.push(
             core,
             What::Take {
                 queue,
                 n: 1,
-                ticket: None,
+                ticket,
             },
         );
         let event = start(&mut self.pools, &mut self.queues, core, queue);
@@ -159,6 +165,10 @@ impl Parts {
             queue,
         )));
         self.started += 1;
-        Received { event, cells }
+        Received {
+            event,
+            ticket,
+            cells,
+        }
     }
 }

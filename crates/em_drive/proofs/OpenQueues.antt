@@ -15,7 +15,7 @@ use Rattle.em_log.specs.declared.ids.Kind.{Kind}
 use Rattle.em_log.specs.Declarations.{declarations_of, eo_shape, queue_shape, is_served}
 use Rattle.em_log.specs.WellFormed.{IsWellFormed, is_queue_decl, is_queue_of, has_eo, has_group, has_agroup}
 use Rattle.em_desk.specs.Served.{serves_queue}
-use Rattle.em_drive.specs.Runnable.{is_runnable, is_runnable_object, is_runnable_queue, is_runnable_kind}
+use Rattle.em_drive.specs.Runnable.{is_runnable, is_runnable_object}
 use Rattle.em_drive.proofs.RunnableParts.{all-get, runnable-parts, object-parts}
 
 -- queues
@@ -25,14 +25,14 @@ shape k o p n a = record { kind = k; eo = o; priority = p; group = n; agroup = a
 
 -- a queue of an object that runs is open
 serves-owned : (k : Declarations) (q : ℕ) (kind : Kind) (x : EoId) (p : Option Priority) (n : Option GroupId) (a : Option ℕ)
-    → slice_get k.queues q ≡ Some (shape kind (Some x) p n a) → slice_get k.running x.0 ≡ Some true → is_runnable_kind kind ≡ true
+    → slice_get k.queues q ≡ Some (shape kind (Some x) p n a) → slice_get k.running x.0 ≡ Some true
     → serves_queue k q ≡ true
-serves-owned k q Kind.Ordered x p n a at runs h = absurd cc
-serves-owned k q Kind.Atomic x p n a at runs h = rw (at, runs) refl
-serves-owned k q Kind.Parallel x p n a at runs h = rw (at, runs) refl
-serves-owned k q Kind.Local x p n a at runs h = rw (at, runs) refl
-serves-owned k q Kind.Unscheduled x p n a at runs h = rw at refl
-serves-owned k q Kind.Output x p n a at runs h = rw at refl
+serves-owned k q Kind.Ordered x p n a at runs = rw (at, runs) refl
+serves-owned k q Kind.Atomic x p n a at runs = rw (at, runs) refl
+serves-owned k q Kind.Parallel x p n a at runs = rw (at, runs) refl
+serves-owned k q Kind.Local x p n a at runs = rw (at, runs) refl
+serves-owned k q Kind.Unscheduled x p n a at runs = rw at refl
+serves-owned k q Kind.Output x p n a at runs = rw at refl
 
 -- and so is one that no core takes from
 serves-untaken : (k : Declarations) (q : ℕ) (kind : Kind) (o : Option EoId) (p : Option Priority) (n : Option GroupId) (a : Option ℕ)
@@ -47,20 +47,24 @@ serves-none k q at = rw at refl
 -- their objects
 
 -- a queue that cores take from has one
-owned : (g : Config) (d : QueueDecl) (kind : Kind) → is_runnable_kind kind ≡ true → is_served kind ≡ true → is_queue_of g d kind ≡ true
+owned : (g : Config) (d : QueueDecl) (kind : Kind) → is_served kind ≡ true → is_queue_of g d kind ≡ true
     → has_eo g d ≡ true
-owned g d Kind.Atomic h taken fits =
+owned g d Kind.Atomic taken fits =
     let a = and_parts (has_eo g d && is_some d.priority) ((has_group g d && is_none d.agroup) || (has_agroup g d && is_none d.group)) fits in
     (and_parts (has_eo g d) (is_some d.priority) a.0).0
-owned g d Kind.Parallel h taken fits =
+owned g d Kind.Parallel taken fits =
     let a = and_parts (has_eo g d && is_some d.priority && has_group g d) (is_none d.agroup) fits in
     let b = and_parts (has_eo g d && is_some d.priority) (has_group g d) a.0 in
     (and_parts (has_eo g d) (is_some d.priority) b.0).0
-owned g d Kind.Local h taken fits =
+owned g d Kind.Ordered taken fits =
+    let a = and_parts (has_eo g d && is_some d.priority && has_group g d) (is_none d.agroup) fits in
+    let b = and_parts (has_eo g d && is_some d.priority) (has_group g d) a.0 in
+    (and_parts (has_eo g d) (is_some d.priority) b.0).0
+owned g d Kind.Local taken fits =
     let a = and_parts (has_eo g d && is_some d.priority && is_none d.group) (is_none d.agroup) fits in
     let b = and_parts (has_eo g d && is_some d.priority) (is_none d.group) a.0 in
     (and_parts (has_eo g d) (is_some d.priority) b.0).0
-owned g d kind h taken fits = absurd cc
+owned g d kind taken fits = absurd cc
 
 -- an object that is one of n
 record ObjectOf (n : ℕ) (o : Option EoId) : Type 0 where
@@ -92,16 +96,16 @@ sends-served g well h q = by_declared (slice_get g.queues q) refl
     k : Declarations
     k = declarations_of g
 
-    by_kind : (d : QueueDecl) → slice_get k.queues q ≡ Some (queue_shape d) → is_runnable_kind d.kind ≡ true → is_queue_of g d d.kind ≡ true
+    by_kind : (d : QueueDecl) → slice_get k.queues q ≡ Some (queue_shape d) → is_queue_of g d d.kind ≡ true
         → (b : Bool) → is_served d.kind ≡ b → serves_queue k q ≡ true
-    by_kind d at runs fits true taken =
-        let object = the-object (length g.eos) d.eo (owned g d d.kind runs taken fits) in
+    by_kind d at fits true taken =
+        let object = the-object (length g.eos) d.eo (owned g d d.kind taken fits) in
         serves-owned k q d.kind object.object d.priority d.group d.agroup
-        (at ∙ ap (λ o. Some (shape d.kind o d.priority d.group d.agroup)) object.is) (runs-at g h object.object.0 object.declared) runs
-    by_kind d at runs fits false taken = serves-untaken k q d.kind d.eo d.priority d.group d.agroup at taken
+        (at ∙ ap (λ o. Some (shape d.kind o d.priority d.group d.agroup)) object.is) (runs-at g h object.object.0 object.declared)
+    by_kind d at fits false taken = serves-untaken k q d.kind d.eo d.priority d.group d.agroup at taken
 
     by_declared : (o : Option QueueDecl) → slice_get g.queues q ≡ o → serves_queue k q ≡ true
     by_declared None is = serves-none k q (slice_get-map queue_shape g.queues q ∙ ap (option_map queue_shape) is)
     by_declared (Some d) is =
         by_kind d (slice_get-map queue_shape g.queues q ∙ ap (option_map queue_shape) is)
-        (all-get is_runnable_queue g.queues q d (runnable-parts g h).queues is) (all-get (is_queue_decl g) g.queues q d well.queues is) (is_served d.kind) refl
+        (all-get (is_queue_decl g) g.queues q d well.queues is) (is_served d.kind) refl

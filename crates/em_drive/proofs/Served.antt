@@ -110,6 +110,7 @@ runnable-served g well runs (Stmt.Send e q) v h asks = sends-served g well runs 
 runnable-served g well runs (Stmt.Claim i) v h asks = refl
 runnable-served g well runs (Stmt.Dequeue i q) v h asks = refl
 runnable-served g well runs Stmt.EndAtomic v h asks = refl
+runnable-served g well runs Stmt.EndOrdered v h asks = refl
 runnable-served g well runs (Stmt.Set i e) v h asks = absurd cc
 runnable-served g well runs s v h asks = absurd cc
 

@@ -1,12 +1,10 @@
 -- The graphs that run today: of any cores, queue groups and atomic groups, with pools, objects that run and have a receive body
--- alone, and queues of every kind but ordered.
+-- alone, and queues of every kind.
 use Rattle.std.specs.Prelude.{Bool, true, false, not, ◌&&◌, ◌||◌, List, [], ◌∷◌, is_none}
 use Rattle.std.specs.List.{list_all}
 use Rattle.em_log.specs.declared.body.Stmt.{Stmt}
 use Rattle.em_log.specs.declared.graph.Config.{Config}
 use Rattle.em_log.specs.declared.graph.EoDecl.{EoDecl}
-use Rattle.em_log.specs.declared.graph.QueueDecl.{QueueDecl}
-use Rattle.em_log.specs.declared.ids.Kind.{Kind}
 use Rattle.em_body.specs.Everywhere.{everywhere_in}
 
 -- the statements that run, `if` and `repeat` aside, which run where their blocks do
@@ -21,6 +19,7 @@ is_runnable_statement (Stmt.Send e q) = true
 is_runnable_statement (Stmt.Claim v) = true
 is_runnable_statement (Stmt.Dequeue v q) = true
 is_runnable_statement Stmt.EndAtomic = true
+is_runnable_statement Stmt.EndOrdered = true
 is_runnable_statement s = false
 
 abbrev pub is_runnable_body : List Stmt → Bool
@@ -32,18 +31,10 @@ is_runnable_object d =
     d.running && is_runnable_body d.receive && not (d.given.start || d.given.stop || d.given.lstart || d.given.lstop)
     && is_none d.error
 
-abbrev pub is_runnable_kind : Kind → Bool
-is_runnable_kind Kind.Ordered = false
-is_runnable_kind _ = true
-
-abbrev pub is_runnable_queue : QueueDecl → Bool
-is_runnable_queue d = is_runnable_kind d.kind
-
 abbrev pub is_empty : {A : Type 0} → List A → Bool
 is_empty [] = true
 is_empty (x ∷ xs) = false
 
 abbrev pub is_runnable : Config → Bool
 is_runnable g =
-    is_empty g.egroups && list_all is_runnable_object g.eos && list_all is_runnable_queue g.queues && is_runnable_body g.boot
-    && is_none g.error
+    is_empty g.egroups && list_all is_runnable_object g.eos && is_runnable_body g.boot && is_none g.error

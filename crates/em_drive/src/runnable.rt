@@ -6,7 +6,7 @@ ghost use Rattle.em_body.specs.Everywhere.{everywhere, everywhere_in};
 ghost use Rattle.em_drive.specs.Runnable as runnable;
 ghost use Rattle.em_drive.specs.Servable.{IsServable};
 
-use em_log::{Block, Config, EoDecl, Kind, QueueDecl, Stmt};
+use em_log::{Block, Config, EoDecl, Stmt};
 
 /// Whether the statement runs, with all blocks that lie in it.
 #[cycle(bodies)]
@@ -29,7 +29,8 @@ fn is_runnable_statement(statement: &Stmt) -> bool
         | Stmt::Send { .. }
         | Stmt::Claim { .. }
         | Stmt::Dequeue { .. }
-        | Stmt::EndAtomic => true,
+        | Stmt::EndAtomic
+        | Stmt::EndOrdered => true,
         _ => false,
     }
 }
@@ -56,22 +57,10 @@ fn is_runnable_object(object: &EoDecl) -> bool
         && object.error.is_none()
 }
 
-fn is_runnable_queue(queue: &QueueDecl) -> bool
-    ensures { result ≡ runnable.is_runnable_queue queue.now }
-{
-    queue.kind != Kind::Ordered
-}
-
 fn are_runnable_objects(objects: &[EoDecl]) -> bool
     ensures { result ≡ list_all runnable.is_runnable_object objects.now }
 {
     objects.iter().all(is_runnable_object)
-}
-
-fn are_runnable_queues(queues: &[QueueDecl]) -> bool
-    ensures { result ≡ list_all runnable.is_runnable_queue queues.now }
-{
-    queues.iter().all(is_runnable_queue)
 }
 
 fn is_runnable_graph(config: &Config) -> bool
@@ -79,7 +68,6 @@ fn is_runnable_graph(config: &Config) -> bool
 {
     config.egroups.as_slice().is_empty()
         && are_runnable_objects(config.eos.as_slice())
-        && are_runnable_queues(config.queues.as_slice())
         && is_runnable_body(config.boot.as_slice())
         && config.error.is_none()
 }

@@ -92,7 +92,7 @@ returns-in-Ok-clause-stands c =
     subst (λ (h : HistoryState). Stands (record p { history = h; pools = c.alloc.new.self }))
     (sym (c.push.ensures ∙ ap (λ (e : Event). pushed p n (What.Alloc c.args.pool e)) c.copy-in-Ok.ensures))
     (settled p q n (Ask.Alloc c.args.pool c.args.kind c.args.words) (What.Alloc c.args.pool e) s
-    (asked p n c.args.kind c.args.pool c.args.words c.copy.result c.in-Ok.handle s c.requires.may c.copy.ensures c.in-Ok.ensures.answer) refl (record { queues = λ c t. refl; atomics = refl; groups = refl })
+    (asked p n c.args.kind c.args.pool c.args.words c.copy.result c.in-Ok.handle s c.requires.may c.copy.ensures c.in-Ok.ensures.answer) refl (record { queues = λ c t. refl; atomics = refl; groups = refl; orders = refl })
     (alloc-cause p.declarations p.history.past n c.args.pool e) stands (ap (λ (v : PoolState). v.pools) c.in-Ok.ensures.value) (omega (arith, spare, least))
     (kept-same p.declarations p.history.past (entry_by n (What.Alloc c.args.pool e) ∷ p.history.past) p.kept (λ x. refl) s.kept))
 

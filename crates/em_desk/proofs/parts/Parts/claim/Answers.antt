@@ -108,7 +108,7 @@ returns-in_default-clause-stands c =
     let lists : c.take.new.self.lists ≡ slice_set p.kept.lists r.object (drop 1 (list_at p.kept r.object)) =
     c.in_default.ensures.lists ∙ ap (λ (x : ℕ). slice_set p.kept.lists x (drop 1 (list_at p.kept x))) at in
     subst (λ (h : HistoryState). Stands (record p { history = h; kept = c.take.new.self })) (sym c.push.ensures)
-    (settled p q n Ask.Claim (claim_of None) s (claim-asked p n None c.requires.may (claims-nothing p n r s empty)) refl (record { queues = λ c t. refl; atomics = refl; groups = refl }) (claim-cause p.declarations p.history.past n None)
+    (settled p q n Ask.Claim (claim_of None) s (claim-asked p n None c.requires.may (claims-nothing p n r s empty)) refl (record { queues = λ c t. refl; atomics = refl; groups = refl; orders = refl }) (claim-cause p.declarations p.history.past n None)
     (settled-pools p 0 s) refl (omega arith) (kept-none p c.take.new.self n r s empty lists c.in_default.ensures.room))
 
 pub returns-in_default-clause-adds : goal.returns-in_default-clause-adds
@@ -141,7 +141,7 @@ returns-clause-stands c =
     c.in-Some.ensures.lists ∙ ap (λ (x : ℕ). slice_set p.kept.lists x (drop 1 (list_at p.kept x))) at in
     subst (λ (h : HistoryState). Stands (record p { history = h; pools = c.mint-event.new.self; kept = c.take.new.self }))
     (sym (c.push-2.ensures ∙ ap (λ (e : Event). pushed p n (claim_of (Some e))) c.copy.ensures))
-    (settled p q n Ask.Claim (claim_of (Some c.mint-event.result)) s (claim-asked p n (Some c.mint-event.result) c.requires.may gives) refl (record { queues = λ c t. refl; atomics = refl; groups = refl })
+    (settled p q n Ask.Claim (claim_of (Some c.mint-event.result)) s (claim-asked p n (Some c.mint-event.result) c.requires.may gives) refl (record { queues = λ c t. refl; atomics = refl; groups = refl; orders = refl })
     (claim-cause p.declarations p.history.past n (Some c.mint-event.result)) (c.mint-event.ensures.stands (steps_of p) (settled-pools p 0 s))
     (ap (λ (v : PoolState). v.pools) c.mint-event.ensures.value) (omega (arith, spare, least))
     (kept-less p c.take.new.self n c.in-Some.index (drop 1 (list_at p.kept r.object)) c.mint-event.result r s first lists c.in-Some.ensures.room))

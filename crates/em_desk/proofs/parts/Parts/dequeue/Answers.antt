@@ -81,7 +81,7 @@ returns-in-Ok-None-clause-stands c =
     let q : Parts = record p { queues = c.dequeue.new.self } in
     subst (λ (h : HistoryState). Stands (record p { history = h; queues = c.dequeue.new.self })) (sym c.push.ensures)
     (settled-with p q n (Ask.Dequeue c.args.queue) (dequeue_of c.args.queue None) s (nothing-asked c) refl (dequeue-cause p.declarations p.history.past n c.args.queue None)
-    (settled-pools p 0 s) refl (omega arith) (stands-by p.declarations c.dequeue.new.self _ _ _ None c.in-Ok-None.field-0-is (c.in-Ok-None.ensures.stands p.declarations (queue_steps p.declarations p.history.past) n (settled-queues p 0 s))) c.in-Ok-None.ensures.same_shape s.atomics refl
+    (settled-pools p 0 s) refl (omega arith) (stands-by p.declarations c.dequeue.new.self _ _ _ None c.in-Ok-None.field-0-is (c.in-Ok-None.ensures.stands p.declarations (queue_steps p.declarations p.history.past) n (settled-queues p 0 s))) c.in-Ok-None.ensures.same_shape s.atomics refl refl
     (kept-same p.declarations p.history.past (entry_by n (dequeue_of c.args.queue None) ∷ p.history.past) p.kept (λ x. refl) s.kept))
 
 pub returns-in-Ok-None-clause-adds : goal.returns-in-Ok-None-clause-adds
@@ -149,7 +149,7 @@ returns-clause-stands c =
     (sym (c.push-2.ensures ∙ ap (λ (e : Event). pushed p n (dequeue_of c.args.queue (Some e))) c.copy.ensures))
     (settled-with p q n (Ask.Dequeue c.args.queue) w s (event-asked c) refl (dequeue-cause p.declarations p.history.past n c.args.queue (Some c.mint-event.result))
     (c.mint-event.ensures.stands (steps_of p) (settled-pools p 0 s)) (ap (λ (v : PoolState). v.pools) c.mint-event.ensures.value) (omega (arith, spare, least))
-    (stands-by p.declarations c.dequeue.new.self _ _ _ (Some c.in-Ok-Some.index) c.in-Ok-Some.field-0-is (c.in-Ok-Some.ensures.stands p.declarations (queue_steps p.declarations p.history.past) n (settled-queues p 0 s))) c.in-Ok-Some.ensures.same_shape s.atomics refl
+    (stands-by p.declarations c.dequeue.new.self _ _ _ (Some c.in-Ok-Some.index) c.in-Ok-Some.field-0-is (c.in-Ok-Some.ensures.stands p.declarations (queue_steps p.declarations p.history.past) n (settled-queues p 0 s))) c.in-Ok-Some.ensures.same_shape s.atomics refl refl
     (kept-same p.declarations p.history.past (entry_by n w ∷ p.history.past) p.kept (λ x. refl) s.kept))
 
 pub returns-clause-adds : goal.returns-clause-adds

@@ -69,7 +69,7 @@ returns-clause-stands c =
     (settled-with p q n (Ask.EndAtomic c.args.cells) w s (asked c) refl (early-cause p n c.untake-rest.result c.args.cells s)
     (settled-pools p 0 s) refl (omega arith)
     (c.untake-rest.ensures.stands p.declarations (queue_steps p.declarations p.history.past) (settled-queues p 0 s)) c.untake-rest.ensures.same_shape
-    (c.give.ensures p.declarations (atomic_steps p.declarations p.history.past) s.atomics) refl
+    (c.give.ensures p.declarations (atomic_steps p.declarations p.history.past) s.atomics) refl refl
     (kept-same p.declarations p.history.past (entry_by n w ∷ p.history.past) p.kept (λ x. refl) s.kept))
 
 pub returns-clause-adds : goal.returns-clause-adds

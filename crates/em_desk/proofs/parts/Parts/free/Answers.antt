@@ -37,7 +37,7 @@ returns-clause-stands c =
     let spare = ap (λ (v : PoolState). v.spare) c.spend.ensures.value in
     subst (λ (h : HistoryState). Stands (record p { history = h; pools = c.spend.new.self })) (sym c.push.ensures)
     (settled p q c.args.core.0 (Ask.Free c.args.word) w c.requires.stands
-    (free-asked p c.args.core.0 c.args.word c.requires.may (rule-is p c.args.core.0 c.args.word None c.requires.stands c.in_default.ensures.answer)) refl (record { queues = λ c t. refl; atomics = refl; groups = refl })
+    (free-asked p c.args.core.0 c.args.word c.requires.may (rule-is p c.args.core.0 c.args.word None c.requires.stands c.in_default.ensures.answer)) refl (record { queues = λ c t. refl; atomics = refl; groups = refl; orders = refl })
     (free-cause p.declarations p.history.past c.args.core.0 (record { 0 = c.args.word }))
     (spent-at p q c.args.core.0 c.args.word c.place-place.result Spend.Freed c.requires.stands c.spend.ensures.stands c.place-place.ensures)
     (ap (λ (v : PoolState). v.pools) c.spend.ensures.value) (omega (arith, spare))

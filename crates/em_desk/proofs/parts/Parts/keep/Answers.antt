@@ -68,7 +68,7 @@ returns-clause-stands c =
     c.add.ensures.lists ∙ ((λ i. slice_set p.kept.lists (at i) (list_at p.kept (at i) ++ c.index_of.result ∷ []))
     ∙ ap (λ (j : ℕ). slice_set p.kept.lists r.object (list_at p.kept r.object ++ j ∷ [])) c.index_of.ensures) in
     subst (λ (h : HistoryState). Stands (record p { history = h; pools = c.spend.new.self; kept = c.add.new.self })) (sym c.push.ensures)
-    (settled p q n (Ask.Keep w) (keep_of w) c.requires.stands (keep-asked p n w c.requires.may ok) refl (record { queues = λ c t. refl; atomics = refl; groups = refl }) (keep-cause p.declarations p.history.past n w)
+    (settled p q n (Ask.Keep w) (keep_of w) c.requires.stands (keep-asked p n w c.requires.may ok) refl (record { queues = λ c t. refl; atomics = refl; groups = refl; orders = refl }) (keep-cause p.declarations p.history.past n w)
     (kept-spent p q n w r c.receiver-object.result object
     (spent-at p q n w c.place-place.result (Spend.Kept c.receiver-object.result) c.requires.stands c.spend.ensures.stands c.place-place.ensures))
     (ap (λ (v : PoolState). v.pools) c.spend.ensures.value) (omega (arith, spare))

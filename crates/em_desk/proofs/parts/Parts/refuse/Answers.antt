@@ -30,7 +30,7 @@ returns-clause-stands c =
     let p = c.args.self.now in
     let w : What = What.Fault c.args.call c.args.fault c.object_in-scope.result in
     subst (λ (h : HistoryState). Stands (record p { history = h })) (sym c.push.ensures)
-    (settled p p c.args.core.0 c.requires.refused.0 w c.requires.stands (asked c) refl (record { queues = λ c t. refl; atomics = refl; groups = refl }) (fault-cause p.declarations p.history.past c.args.core.0 c.args.call c.args.fault c.object_in-scope.result)
+    (settled p p c.args.core.0 c.requires.refused.0 w c.requires.stands (asked c) refl (record { queues = λ c t. refl; atomics = refl; groups = refl; orders = refl }) (fault-cause p.declarations p.history.past c.args.core.0 c.args.call c.args.fault c.object_in-scope.result)
     (settled-pools p 0 c.requires.stands) refl (omega arith)
     (kept-same p.declarations p.history.past (entry_by c.args.core.0 w ∷ p.history.past) p.kept (λ x. refl) c.requires.stands.kept))
 

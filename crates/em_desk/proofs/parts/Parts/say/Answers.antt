@@ -21,7 +21,7 @@ returns-clause-stands c =
     let p = c.args.self.now in
     let w : What = What.Say c.args.value in
     subst (λ (h : HistoryState). Stands (record p { history = h })) (sym c.push.ensures)
-    (settled p p c.args.core.0 (Ask.Say c.args.value) w c.requires.stands (say-asked p c.args.core.0 c.args.value c.requires.may) refl (record { queues = λ c t. refl; atomics = refl; groups = refl })
+    (settled p p c.args.core.0 (Ask.Say c.args.value) w c.requires.stands (say-asked p c.args.core.0 c.args.value c.requires.may) refl (record { queues = λ c t. refl; atomics = refl; groups = refl; orders = refl })
     (silent-cause p.declarations p.history.past c.args.core.0 c.args.value) (settled-pools p 0 c.requires.stands) refl (omega arith)
     (kept-same p.declarations p.history.past (entry_by c.args.core.0 w ∷ p.history.past) p.kept (λ x. refl) c.requires.stands.kept))
 
