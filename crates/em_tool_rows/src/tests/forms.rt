@@ -8,7 +8,7 @@ use std::test::*;
 /// canonical spelling.
 type Form = (&'static str, &'static str, &'static str, &'static str);
 
-const DECLARATIONS_RUN: [Form; 24] = [
+const DECLARATIONS_RUN: [Form; 26] = [
     ("cores 1", "", "", ""),
     ("cores 2", "", "", ""),
     ("cores 8", "", "", ""),
@@ -46,13 +46,14 @@ const DECLARATIONS_RUN: [Form; 24] = [
         "",
         "",
     ),
+    ("cores 1", "queue u ordered x normal all\n", "", ""),
+    ("cores 2", "group g 2\nqueue u ordered x lowest g\n", "", ""),
     ("cores 1", "queue u unscheduled\n", "", ""),
     ("cores 1", "queue u output\n", "", ""),
 ];
 
-const DECLARATIONS_NOT_RUN_TODAY: [Form; 3] = [
+const DECLARATIONS_NOT_RUN_TODAY: [Form; 2] = [
     ("cores 1", "eo y\n", "", ""),
-    ("cores 1", "queue u ordered x normal all\n", "", ""),
     ("cores 1", "egroup e\n", "", ""),
 ];
 
@@ -67,11 +68,10 @@ const BODIES_NOT_RUN_TODAY: [Form; 8] = [
     ("cores 1", "", "", "body x receive\nenable q\nend\n"),
 ];
 
-const STATEMENTS_NOT_RUN_TODAY: [Form; 16] = [
+const STATEMENTS_NOT_RUN_TODAY: [Form; 15] = [
     ("cores 1", "egroup e\n", "alloc v0 p 1\nsendg v0 q e\n", ""),
     ("cores 1", "", "enable q\n", ""),
     ("cores 1", "", "disable q\n", ""),
-    ("cores 1", "", "endordered\n", ""),
     ("cores 1", "", "endgroup\n", ""),
     ("cores 1", "egroup e\n", "apply e 1\n", ""),
     ("cores 1", "egroup e\n", "apply e 1 note v0 q\n", ""),

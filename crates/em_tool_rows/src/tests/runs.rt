@@ -71,6 +71,34 @@ fn runs_of_cores_and_queues(rt: HostRuntime) -> Result<(), Fail> {
     judge_rows(&rt, alloc, &RUNS)
 }
 
+const ORDERED_RUNS: [Row; 3] = [
+    (
+        "solo 10 1 0,1,2",
+        "cores 3\npool p 6 0\neo x running\nqueue s ordered x normal all\nqueue o output\nqueue u unscheduled\nboot\nalloc v0 p 1\nsend v0 s\nalloc v0 p 2\nsend v0 s\nalloc v0 p 3\nsend v0 s\nend\nbody x receive\nsend me o\nalloc v0 p kind\nsend v0 u\nif lt kind 3\nsay kind\nsay kind\nend\nif eq kind 2\nsay kind\nend\nend\ndone\n",
+        0,
+        "trace 1\n0 c0 enter boot\n1 c0 alloc p0 65536 kind 1 words 0\n2 c0 send 65536 q0\n3 c0 alloc p0 65537 kind 2 words 0\n4 c0 send 65537 q0\n5 c0 alloc p0 65538 kind 3 words 0\n6 c0 send 65538 q0\n7 c0 end lost 0\n8 c1 take q0 1 ticket 0\n9 c1 start q0 131072 kind 1 words 0\n10 c2 take q0 1 ticket 1\n11 c2 start q0 131073 kind 2 words 0\n12 c0 take q0 1 ticket 2\n13 c0 start q0 131074 kind 3 words 0\n14 c1 send 131072 q1 ticket 0\n15 c1 out q1 kind 1 words 0\n16 c2 send 131073 q1 ticket 1\n17 c0 send 131074 q1 ticket 2\n18 c1 alloc p0 196608 kind 1 words 0\n19 c2 alloc p0 65539 kind 2 words 0\n20 c0 alloc p0 65540 kind 3 words 0\n21 c1 send 196608 q2 ticket 0\n22 c2 send 65539 q2 ticket 1\n23 c0 send 65540 q2 ticket 2\n24 c1 say 1\n25 c2 say 2\n26 c0 end lost 0\n27 c1 say 1\n28 c2 say 2\n29 c1 end lost 0\n30 c1 out q1 kind 2 words 0\n31 c2 say 2\n32 c2 end lost 0\n33 c2 out q1 kind 3 words 0\nquiet\n",
+    ),
+    (
+        "solo 10 1 0,1",
+        "cores 2\npool p 2 0\neo x running\nqueue s ordered x normal all\nqueue o output\nboot\nalloc v0 p 1\nsend v0 s\nalloc v0 p 2\nsend v0 s\nend\nbody x receive\nif eq kind 2\nendordered\nsend me o\nelse\nsay 1\nsay 1\nsay 1\nfree me\nend\nend\ndone\n",
+        0,
+        "trace 1\n0 c0 enter boot\n1 c0 alloc p0 65536 kind 1 words 0\n2 c0 send 65536 q0\n3 c0 alloc p0 65537 kind 2 words 0\n4 c0 send 65537 q0\n5 c0 end lost 0\n6 c1 take q0 1 ticket 0\n7 c1 start q0 131072 kind 1 words 0\n8 c0 take q0 1 ticket 1\n9 c0 start q0 131073 kind 2 words 0\n10 c1 say 1\n11 c0 endordered\n12 c1 say 1\n13 c0 send 131073 q1\n14 c0 out q1 kind 2 words 0\n15 c1 say 1\n16 c0 end lost 0\n17 c1 free 131072\n18 c1 end lost 0\nquiet\n",
+    ),
+    (
+        "solo 10 1 0",
+        "cores 1\npool p 1 0\neo x running\nqueue s ordered x normal all\nqueue o output\nboot\nalloc v0 p 1\nsend v0 s\nend\nbody x receive\nsend me o\nendordered\nendordered\nend\ndone\n",
+        0,
+        "trace 1\n0 c0 enter boot\n1 c0 alloc p0 65536 kind 1 words 0\n2 c0 send 65536 q0\n3 c0 end lost 0\n4 c0 take q0 1 ticket 0\n5 c0 start q0 131072 kind 1 words 0\n6 c0 send 131072 q1 ticket 0\n7 c0 out q1 kind 1 words 0\n8 c0 endordered\n9 c0 fault endordered 8 0 o0\n10 c0 end lost 0\nquiet\n",
+    ),
+];
+
+/// Three contexts of an ordered queue end out of order; one ends its ticket early, and one does so twice.
+#[test]
+fn runs_of_ordered_queues(rt: HostRuntime) -> Result<(), Fail> {
+    let alloc = rt.alloc();
+    judge_rows(&rt, alloc, &ORDERED_RUNS)
+}
+
 /// Of an order the cores count that the script has, and those that it lacks follow upwards.
 #[test]
 fn orders_with_other_cores(rt: HostRuntime) -> Result<(), Fail> {
