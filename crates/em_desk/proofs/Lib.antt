@@ -8,6 +8,10 @@ mod Contexts
 mod GroupsKept
 mod OrdersKept
 mod Begun
+mod HandedNotes
+mod GroupAsks
+mod FreedNotes
+mod Aborts
 mod Performed
 mod Listed
 mod Asked

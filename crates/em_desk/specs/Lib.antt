@@ -8,6 +8,7 @@ pub mod Atomics
 pub mod Orders
 pub mod Acts
 pub mod Groups
+pub mod Notes
 pub mod Standing
 pub mod Choices
 pub mod Answers
