@@ -4,7 +4,7 @@ use Rattle.std.proofs.lemmas.Bool.{and_parts}
 use Rattle.std.specs.List.{list_all}
 use Rattle.em_log.specs.declared.graph.Config.{Config}
 use Rattle.em_log.specs.declared.graph.EoDecl.{EoDecl}
-use Rattle.em_drive.specs.Runnable.{is_runnable, is_runnable_object, is_runnable_body, is_empty}
+use Rattle.em_drive.specs.Runnable.{is_runnable, is_runnable_object, is_runnable_body}
 
 -- lists
 
@@ -35,12 +35,10 @@ none-of (Some x) h = absurd cc
 
 pub runnable-parts : (g : Config) → IsTrue (is_runnable g) → Parts g
 runnable-parts g h =
-    let no_groups : Bool = is_empty g.egroups in
     let objects : Bool = list_all is_runnable_object g.eos in
-    let a = and_parts (no_groups && objects && is_runnable_body g.boot) (is_none g.error) h in
-    let b = and_parts (no_groups && objects) (is_runnable_body g.boot) a.0 in
-    let c = and_parts no_groups objects b.0 in
-    record { objects = c.1; boot = b.1; error = none-of g.error a.1 }
+    let a = and_parts (objects && is_runnable_body g.boot) (is_none g.error) h in
+    let b = and_parts objects (is_runnable_body g.boot) a.0 in
+    record { objects = b.0; boot = b.1; error = none-of g.error a.1 }
 
 pub runnable-no_error : (g : Config) → IsTrue (is_runnable g) → g.error ≡ None
 runnable-no_error g h = (runnable-parts g h).error

@@ -1,6 +1,6 @@
--- The graphs that run today: of any cores, queue groups and atomic groups, with pools, objects that run and have a receive body
--- alone, and queues of every kind.
-use Rattle.std.specs.Prelude.{Bool, true, false, not, ◌&&◌, ◌||◌, List, [], ◌∷◌, is_none}
+-- The graphs that run today: of any cores, queue groups, atomic groups and event groups, with pools, objects that run and have a
+-- receive body alone, and queues of every kind. No send is with an event group.
+use Rattle.std.specs.Prelude.{Bool, true, false, not, ◌&&◌, ◌||◌, List, is_none}
 use Rattle.std.specs.List.{list_all}
 use Rattle.em_log.specs.declared.body.Stmt.{Stmt}
 use Rattle.em_log.specs.declared.graph.Config.{Config}
@@ -20,6 +20,10 @@ is_runnable_statement (Stmt.Claim v) = true
 is_runnable_statement (Stmt.Dequeue v q) = true
 is_runnable_statement Stmt.EndAtomic = true
 is_runnable_statement Stmt.EndOrdered = true
+is_runnable_statement Stmt.EndGroup = true
+is_runnable_statement (Stmt.Apply g e ns) = true
+is_runnable_statement (Stmt.Increment e) = true
+is_runnable_statement (Stmt.Abort g) = true
 is_runnable_statement s = false
 
 abbrev pub is_runnable_body : List Stmt → Bool
@@ -31,10 +35,5 @@ is_runnable_object d =
     d.running && is_runnable_body d.receive && not (d.given.start || d.given.stop || d.given.lstart || d.given.lstop)
     && is_none d.error
 
-abbrev pub is_empty : {A : Type 0} → List A → Bool
-is_empty [] = true
-is_empty (x ∷ xs) = false
-
 abbrev pub is_runnable : Config → Bool
-is_runnable g =
-    is_empty g.egroups && list_all is_runnable_object g.eos && is_runnable_body g.boot && is_none g.error
+is_runnable g = list_all is_runnable_object g.eos && is_runnable_body g.boot && is_none g.error

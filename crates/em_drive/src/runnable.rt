@@ -30,7 +30,11 @@ fn is_runnable_statement(statement: &Stmt) -> bool
         | Stmt::Claim { .. }
         | Stmt::Dequeue { .. }
         | Stmt::EndAtomic
-        | Stmt::EndOrdered => true,
+        | Stmt::EndOrdered
+        | Stmt::EndGroup
+        | Stmt::Apply { .. }
+        | Stmt::Increment(_)
+        | Stmt::Abort(_) => true,
         _ => false,
     }
 }
@@ -66,8 +70,7 @@ fn are_runnable_objects(objects: &[EoDecl]) -> bool
 fn is_runnable_graph(config: &Config) -> bool
     ensures { result ≡ runnable.is_runnable config.now }
 {
-    config.egroups.as_slice().is_empty()
-        && are_runnable_objects(config.eos.as_slice())
+    are_runnable_objects(config.eos.as_slice())
         && is_runnable_body(config.boot.as_slice())
         && config.error.is_none()
 }

@@ -8,7 +8,7 @@ use std::test::*;
 /// canonical spelling.
 type Form = (&'static str, &'static str, &'static str, &'static str);
 
-const DECLARATIONS_RUN: [Form; 26] = [
+const DECLARATIONS_RUN: [Form; 27] = [
     ("cores 1", "", "", ""),
     ("cores 2", "", "", ""),
     ("cores 8", "", "", ""),
@@ -50,12 +50,10 @@ const DECLARATIONS_RUN: [Form; 26] = [
     ("cores 2", "group g 2\nqueue u ordered x lowest g\n", "", ""),
     ("cores 1", "queue u unscheduled\n", "", ""),
     ("cores 1", "queue u output\n", "", ""),
-];
-
-const DECLARATIONS_NOT_RUN_TODAY: [Form; 2] = [
-    ("cores 1", "eo y\n", "", ""),
     ("cores 1", "egroup e\n", "", ""),
 ];
+
+const DECLARATIONS_NOT_RUN_TODAY: [Form; 1] = [("cores 1", "eo y\n", "", "")];
 
 const BODIES_NOT_RUN_TODAY: [Form; 8] = [
     ("cores 1", "", "", "error\nend\n"),
@@ -68,15 +66,10 @@ const BODIES_NOT_RUN_TODAY: [Form; 8] = [
     ("cores 1", "", "", "body x receive\nenable q\nend\n"),
 ];
 
-const STATEMENTS_NOT_RUN_TODAY: [Form; 15] = [
+const STATEMENTS_NOT_RUN_TODAY: [Form; 10] = [
     ("cores 1", "egroup e\n", "alloc v0 p 1\nsendg v0 q e\n", ""),
     ("cores 1", "", "enable q\n", ""),
     ("cores 1", "", "disable q\n", ""),
-    ("cores 1", "", "endgroup\n", ""),
-    ("cores 1", "egroup e\n", "apply e 1\n", ""),
-    ("cores 1", "egroup e\n", "apply e 1 note v0 q\n", ""),
-    ("cores 1", "", "increment 1\n", ""),
-    ("cores 1", "egroup e\n", "abort e\n", ""),
     ("cores 1", "", "start x\n", ""),
     ("cores 1", "", "stop x\n", ""),
     ("cores 1", "", "modify all 1\n", ""),
