@@ -19,7 +19,7 @@ use crate::runs::{Rounds, acknowledged, applied, atomic, grouped, moved, ordered
 use em_log::{Kind, NoMemory, Priority, QueueId};
 use em_parts_rows::graph;
 use em_queues::{Allowed, Queues};
-use std::alloc::Global;
+use std::alloc::{AllocError, Global};
 use std::env;
 use std::time::Instant;
 
@@ -102,7 +102,7 @@ fn timed(
     requires events { events ≤ 4096 }
 {
     let Ok(mut queues) = built(rt.alloc(), kinds, events) else {
-        return Ok(());
+        return Err(AllocError.into());
     };
     let count = kinds.len() as u16;
     let may = all_of(count);
@@ -128,7 +128,7 @@ fn counted(
     calls: &[(&'static str, u32)],
 ) -> anyhow::Result<()> {
     let Ok(rounds) = rounds else {
-        return Ok(());
+        return Err(AllocError.into());
     };
     for (name, times) in calls {
         println!(rt; "{name} {}", u64::from(*times) * u64::from(rounds.count))?;
