@@ -7,6 +7,10 @@ mod Rooms
 mod Contexts
 mod Begun
 mod GroupsKept
+mod HandedNotes
+mod GroupAsks
+mod FreedNotes
+mod Aborts
 mod Performed
 mod Listed
 mod Asked

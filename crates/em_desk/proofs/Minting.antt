@@ -11,7 +11,8 @@ use Rattle.em_bounds.specs.Paid.{paid, pays}
 use Rattle.em_pool.specs.Steps.{PoolStep, mintings}
 use Rattle.em_parts.specs.PoolSteps.{Move, moved, moves, noted_steps, direct, pool_steps}
 use Rattle.em_desk.specs.declared.parts.Parts.{Parts}
-use Rattle.em_bounds.specs.Room.{left_if, left_open}
+use Rattle.em_bounds.specs.Room.{left_if, left_open, needed}
+use Rattle.em_bounds.proofs.Room.{has-room}
 use Rattle.em_desk.specs.Standing.{Stands}
 use Rattle.em_desk.specs.State.{MayAsk}
 use Rattle.em_desk.proofs.Begun.{settled-pools}
@@ -70,3 +71,11 @@ has-spare p c a s may costs =
     let fits = s.mintable in
     let enough = may.enough in
     omega (arith, open_now, has, fits, enough, costs)
+
+-- and the history has few entries
+pub few-entries : (p : Parts) → Stands p → length p.history.past < 4294967295
+few-entries p s =
+    let fits = has-room p.declarations p.limits p.history.past (needed p.declarations p.history.past) s.all (omega arith) in
+    let enough = needed-most p.declarations p.limits p.history.past s.fixed.limits.some_burst (record { each = s.all; whole = s.due }) s.afforded in
+    let most = limit-most p.declarations p.limits s.fixed.graph.most_cores s.fixed.limits.most_receives in
+    omega (arith, fits, enough, most)

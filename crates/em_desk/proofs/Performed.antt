@@ -68,7 +68,7 @@ ready-after k s t i to e (a ∷ acts) apart ready =
       (ready.1.0, ready-after k s t i to e acts parts.1 ready.1.1),
     )
 
-core-tail : (k : Declarations) (c : ℕ) (acts : List Act) → c < k.cores → IsCore k c acts
+pub core-tail : (k : Declarations) (c : ℕ) (acts : List Act) → c < k.cores → IsCore k c acts
 core-tail k c [] lt = tt
 core-tail k c (a ∷ acts) lt = lt
 

@@ -1,5 +1,6 @@
 -- Where each ask was served, no operation began, no group was applied, no flag was set or cleared.
 use Rattle.std.proofs.Common.{◌≡◌, ℕ, ◌==◌, Bool, true, false, List, [], ◌∷◌, Option, Some, None, refl, ap, ◌∙◌, if◌then◌else◌, IsTrue}
+use Rattle.std.specs.List.{list_all}
 use Rattle.std.specs.Option.{option_map_or, option_and_then}
 use Rattle.em_log.specs.declared.declarations.Declarations.{Declarations}
 use Rattle.em_log.specs.declared.entry.What.{What}
@@ -11,8 +12,8 @@ use Rattle.em_log.specs.Declarations.{object_of, kind_of, is_served, declared_ma
 use Rattle.em_log.specs.Operations.{Operation, operation, begun_by, operations, one_more_begun, step, all_done, notes_of}
 use Rattle.em_log.specs.States.{state, state_after, state_done, flag, flag_after, mask, mask_after, mask_done, change, change_after, change_done, effective, within_change, closed, closed_by, is_running}
 use Rattle.em_log.specs.Eligible.{runs, is_in_group, has_core}
-use Rattle.em_log.specs.EventGroups.{busy, busy_after, applied_notes, notes_applied}
-use Rattle.em_desk.specs.Served.{AllServed, is_served_entry}
+use Rattle.em_log.specs.EventGroups.{applied_notes, notes_applied}
+use Rattle.em_desk.specs.Served.{AllServed, is_served_entry, serves_queue}
 
 -- operations
 
@@ -111,27 +112,19 @@ closed-declared k past q s = by_object (is_served (kind_of k q)) (object_of k q)
 
 -- event groups
 
-busy-next : (k : Declarations) (g : ℕ) (w : What) (b : Bool) → IsTrue (is_served_entry k w) → b ≡ false → busy_after g w b ≡ false
-busy-next k g (What.Apply h a n notes) b s none = absurd (cc s)
-busy-next k g (What.Abort h) b s none = absurd (cc s)
-busy-next k g (What.Notify h a) b s none = by_test (h.0 == g) none
+applied-next : (k : Declarations) (g : ℕ) (w : What) (was : List Note) → IsTrue (is_served_entry k w) → list_all (λ n. serves_queue k n.queue.0) was ≡ true
+    → list_all (λ n. serves_queue k n.queue.0) (notes_applied g w was) ≡ true
+applied-next k g (What.Apply h a n notes) was s older = by_test (h.0 == g)
   where
-    by_test : (t : Bool) → b ≡ false → (if t then false else b) ≡ false
-    by_test true none = refl
-    by_test false none = none
-busy-next k g w b s none = none
+    by_test : (b : Bool) → list_all (λ n. serves_queue k n.queue.0) (if b then notes else was) ≡ true
+    by_test true = s
+    by_test false = older
+applied-next k g w was s older = older
 
-pub none-busy : (k : Declarations) (past : Past) (g : ℕ) → AllServed k past → busy past g ≡ false
-none-busy k [] g s = refl
-none-busy k (e ∷ past) g s = busy-next k g e.what (busy past g) s.0 (none-busy k past g s.1)
-
-applied-next : (k : Declarations) (g : ℕ) (w : What) (notes : List Note) → IsTrue (is_served_entry k w) → notes ≡ [] → notes_applied g w notes ≡ []
-applied-next k g (What.Apply h a n notes) was s none = absurd (cc s)
-applied-next k g w was s none = none
-
-pub none-applied : (k : Declarations) (past : Past) (g : ℕ) → AllServed k past → applied_notes past g ≡ []
-none-applied k [] g s = refl
-none-applied k (e ∷ past) g s = applied-next k g e.what (applied_notes past g) s.0 (none-applied k past g s.1)
+-- the queues of all notes of a group are served
+pub applied-served : (k : Declarations) (past : Past) (g : ℕ) → AllServed k past → list_all (λ n. serves_queue k n.queue.0) (applied_notes past g) ≡ true
+applied-served k [] g s = refl
+applied-served k (e ∷ past) g s = applied-next k g e.what (applied_notes past g) s.0 (applied-served k past g s.1)
 
 pub no-notes : (k : Declarations) (past : Past) (n : ℕ) → AllServed k past → notes_of (operation past n) ≡ []
 no-notes k past n s = ap notes_of (no-operation k past n s)

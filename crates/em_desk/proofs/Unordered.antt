@@ -1,26 +1,30 @@
 -- Where each ask was served, no ticket is open, nothing has a stamp, and nothing enters a queue that draws tickets.
 use Rattle.std.proofs.Common.{◌≡◌, ℕ, zero, suc, ◌==◌, Bool, true, false, not, ◌&&◌, List, [], ◌∷◌, ◌++◌, drop, Option, Some, None, refl, ap, sym, ◌∙◌, subst, if◌then◌else◌, IsTrue}
 use Rattle.std.specs.Option.{option_map}
-use Rattle.std.specs.List.{AllByRecursion}
+use Rattle.std.specs.List.{AllByRecursion, list_all}
 use Rattle.em_log.specs.declared.declarations.Declarations.{Declarations}
 use Rattle.em_log.specs.declared.entry.What.{What}
 use Rattle.em_log.specs.declared.entry.Body.{Body}
 use Rattle.em_log.specs.declared.ids.Handle.{Handle}
 use Rattle.em_log.specs.declared.ids.Limits.{Limits}
 use Rattle.em_log.specs.declared.ids.QueueId.{QueueId}
+use Rattle.em_log.specs.declared.ids.Note.{Note}
 use Rattle.em_log.specs.declared.ids.Stamp.{Stamp}
 use Rattle.em_log.specs.History.{Past, entry_by}
 use Rattle.em_log.specs.Declarations.{kind_of, is_ordered}
 use Rattle.em_log.specs.Contexts.{context, context_after, take_queue, take_queue_after}
 use Rattle.em_log.specs.Handles.{Minting, minting}
 use Rattle.em_log.specs.Order.{Ticket, Sent, open_ticket, ticket_after, let_in}
-use Rattle.em_log.specs.Arrivals.{Item, item, item_of, arrivals, entering, with_items, is_for, open_notes}
+use Rattle.em_log.specs.Arrivals.{Item, item, item_of, arrivals, entering, with_items, with_sent, is_for, note_entering, open_notes}
 use Rattle.em_log.specs.Places.{waiting, taken, taken_after, gone}
+use Rattle.em_log.specs.EventGroups.{applied_notes}
+use Rattle.em_log.specs.States.{closed}
 use Rattle.em_log.specs.Lawful.{AllAllowed, is_boot_or_receive}
+use Rattle.em_arrivals.proofs.Lists.{AllSent}
 use Rattle.em_moments.proofs.Moments.{Moment, EntersBoot, EntersStep, allowed-moment}
 use Rattle.em_laws.proofs.Cores.{Compared, Same, Other, compared, eqb-eq, none-some, some-inj}
-use Rattle.em_desk.specs.Served.{AllServed, is_served_entry, is_free_of_order}
-use Rattle.em_desk.proofs.Served.{no-notes, none-applied, no-step}
+use Rattle.em_desk.specs.Served.{AllServed, is_served_entry, is_free_of_order, serves_queue}
+use Rattle.em_desk.proofs.Served.{no-notes, applied-served, no-step}
 
 -- no stamp
 abbrev pub Unstamped : List Item → Type 0
@@ -51,50 +55,74 @@ unstamped-item : (h : ℕ) (o : Option Minting) → Unstamped (item_of h None o)
 unstamped-item h None = tt
 unstamped-item h (Some m) = (refl, tt)
 
--- what enters: nothing, or this send
-data Entered (k : Declarations) (past : Past) (d : ℕ) (w : What) : Type 0 where
-  Nothing : entering k past (entry_by d w) ≡ [] → Entered k past d w
-  OneSent : (s : Sent) → entering k past (entry_by d w) ≡ s ∷ [] → s.stamp ≡ None → is_free_of_order k s.queue ≡ true → Entered k past d w
+-- what enters has no stamp, and enters queues that draw no tickets
+abbrev IsPlain : Declarations → Sent → Type 0
+IsPlain k s = (s.stamp ≡ None) × (is_free_of_order k s.queue ≡ true)
+
+abbrev Entered : Declarations → Past → ℕ → What → Type 0
+Entered k past d w = AllSent (IsPlain k) (entering k past (entry_by d w))
+
+with-plain : (k : Declarations) (o : Option Sent) (ss : List Sent) → ((s : Sent) → o ≡ Some s → IsPlain k s) → AllSent (IsPlain k) ss → AllSent (IsPlain k) (with_sent o ss)
+with-plain k None ss one rest = rest
+with-plain k (Some s) ss one rest = (one s refl, rest)
+
+note-plain : (k : Declarations) (d : ℕ) (n : Note) (o : Option ℕ) (s : Sent) → is_free_of_order k n.queue.0 ≡ true → note_entering d n o ≡ Some s → IsPlain k s
+note-plain k d n None s free is = subst (IsPlain k) (some-inj _ _ is) (refl, free)
+note-plain k d n (Some why) s free is = absurd (none-some s is)
+
+notes-plain : (k : Declarations) (now : Past) (d : ℕ) (ns : List Note) → list_all (λ n. serves_queue k n.queue.0) ns ≡ true → AllSent (IsPlain k) (open_notes k now d ns)
+notes-plain k now d [] served = tt
+notes-plain k now d (n ∷ ns) served =
+    let parts = both-true (serves_queue k n.queue.0) (list_all (λ n. serves_queue k n.queue.0) ns) served in
+    let free = (both-true (is_free_of_order k n.queue.0) _ parts.0).0 in
+    with-plain k (note_entering d n (closed k now n.queue.0)) (open_notes k now d ns) (λ s is. note-plain k d n (closed k now n.queue.0) s free is) (notes-plain k now d ns parts.1)
 
 entered : (k : Declarations) (l : Limits) (past : Past) (d : ℕ) (w : What) → IsTrue (is_served_entry k w) → AllServed k past → IsUnordered k past → Moment k l past d w → Entered k past d w
 entered k l past d (What.Send h q t s) served all u m =
     let is = sent-served k h q t s served in
-    let free : t ≡ None = m.ticket ∙ ap (option_map (λ (x : Ticket). x.number)) (u.tickets d) in
-    OneSent (record { queue = q.0; core = d; handle = h.0; stamp = s }) (rw free refl) is.0 is.1
+    let free : t ≡ None = m.ticket ∙ ap (option_map (λ (x : Ticket). x.number)) (u.tickets d) in rw free (is, tt)
 entered k l past d What.EndOrdered served all u m = absurd (cc served)
-entered k l past d (What.End lost cells) served all u m = Nothing (ap (let_in past (entry_by d (What.End lost cells) ∷ past)) (u.tickets d))
+entered k l past d (What.End lost cells) served all u m =
+    subst (AllSent (IsPlain k)) (sym (ap (let_in past (entry_by d (What.End lost cells) ∷ past)) (u.tickets d))) tt
 entered k l past d (What.Done op true) served all u m =
-    Nothing (ap (open_notes k (entry_by d (What.Done op true) ∷ past) d) (no-notes k past op.0 all))
-entered k l past d (What.Done op false) served all u m = Nothing refl
+    subst (AllSent (IsPlain k)) (sym (ap (open_notes k (entry_by d (What.Done op true) ∷ past) d) (no-notes k past op.0 all))) tt
+entered k l past d (What.Done op false) served all u m = tt
 entered k l past d (What.Notify g a) served all u m =
-    Nothing (ap (open_notes k (entry_by d (What.Notify g a) ∷ past) d) (none-applied k past g.0 all))
-entered k l past d w served all u m = Nothing refl
+    notes-plain k (entry_by d (What.Notify g a) ∷ past) d (applied_notes past g.0) (applied-served k past g.0 all)
+entered k l past d w served all u m = tt
 
-empty-next : (k : Declarations) (past : Past) (d : ℕ) (w : What) (q c : ℕ) → Entered k past d w → is_free_of_order k q ≡ false → arrivals k past q c ≡ []
-    → arrivals k (entry_by d w ∷ past) q c ≡ []
-empty-next k past d w q c (Nothing is) off none = ap (with_items k past q c (arrivals k past q c)) is ∙ none
-empty-next k past d w q c (OneSent s is stamp free) off none =
-    ap (with_items k past q c (arrivals k past q c)) is ∙ by_test (is_for k q c s.queue s.core) refl
+empty-with : (k : Declarations) (past : Past) (q c : ℕ) (items : List Item) (ss : List Sent) → AllSent (IsPlain k) ss → is_free_of_order k q ≡ false → items ≡ []
+    → with_items k past q c items ss ≡ []
+empty-with k past q c items [] all off none = none
+empty-with k past q c items (s ∷ ss) all off none =
+    empty-with k past q c (if is_for k q c s.queue s.core then items ++ item past s else items) ss all.1 off (by_test (is_for k q c s.queue s.core) refl)
   where
-    by_test : (b : Bool) → is_for k q c s.queue s.core ≡ b → (if b then arrivals k past q c ++ item past s else arrivals k past q c) ≡ []
+    by_test : (b : Bool) → is_for k q c s.queue s.core ≡ b → (if b then items ++ item past s else items) ≡ []
     by_test false t = none
     by_test true t =
         let same : s.queue ≡ q = eqb-eq s.queue q (both-true (s.queue == q) _ t).0 in
-        let on : is_free_of_order k q ≡ true = ap (is_free_of_order k) (sym same) ∙ free in
+        let on : is_free_of_order k q ≡ true = ap (is_free_of_order k) (sym same) ∙ all.0.1 in
         absurd (cc (on, off))
+
+empty-next : (k : Declarations) (past : Past) (d : ℕ) (w : What) (q c : ℕ) → Entered k past d w → is_free_of_order k q ≡ false → arrivals k past q c ≡ []
+    → arrivals k (entry_by d w ∷ past) q c ≡ []
+empty-next k past d w q c new off none = empty-with k past q c (arrivals k past q c) (entering k past (entry_by d w)) new off none
+
+stamps-with : (k : Declarations) (past : Past) (q c : ℕ) (items : List Item) (ss : List Sent) → AllSent (IsPlain k) ss → Unstamped items → Unstamped (with_items k past q c items ss)
+stamps-with k past q c items [] new all = all
+stamps-with k past q c items (s ∷ ss) new all =
+    stamps-with k past q c (if is_for k q c s.queue s.core then items ++ item past s else items) ss new.1 (by_test (is_for k q c s.queue s.core))
+  where
+    made : Unstamped (item past s)
+    made = subst (λ (o : Option Stamp). Unstamped (item_of s.handle o (minting past s.handle))) (sym new.0.0) (unstamped-item s.handle (minting past s.handle))
+
+    by_test : (b : Bool) → Unstamped (if b then items ++ item past s else items)
+    by_test true = all-append items (item past s) all made
+    by_test false = all
 
 stamps-next : (k : Declarations) (past : Past) (d : ℕ) (w : What) (q c : ℕ) → Entered k past d w → Unstamped (arrivals k past q c)
     → Unstamped (arrivals k (entry_by d w ∷ past) q c)
-stamps-next k past d w q c (Nothing is) all = subst Unstamped (sym (ap (with_items k past q c (arrivals k past q c)) is)) all
-stamps-next k past d w q c (OneSent s is stamp free) all =
-    subst Unstamped (sym (ap (with_items k past q c (arrivals k past q c)) is)) (by_test (is_for k q c s.queue s.core))
-  where
-    made : Unstamped (item past s)
-    made = subst (λ (o : Option Stamp). Unstamped (item_of s.handle o (minting past s.handle))) (sym stamp) (unstamped-item s.handle (minting past s.handle))
-
-    by_test : (b : Bool) → Unstamped (if b then arrivals k past q c ++ item past s else arrivals k past q c)
-    by_test true = all-append (arrivals k past q c) (item past s) all made
-    by_test false = all
+stamps-next k past d w q c new all = stamps-with k past q c (arrivals k past q c) (entering k past (entry_by d w)) new all
 
 -- takes
 

@@ -7,6 +7,7 @@ pub mod Histories
 pub mod Atomics
 pub mod Acts
 pub mod Groups
+pub mod Notes
 pub mod Standing
 pub mod Choices
 pub mod Answers

@@ -1,5 +1,6 @@
 -- The asks that the desk serves, and the histories of such asks alone.
 use Rattle.std.specs.Prelude.{ℕ, Bool, true, false, not, ◌&&◌, List, [], ◌∷◌, Option, Some, None, is_none, IsTrue}
+use Rattle.std.specs.List.{list_all}
 use Rattle.std.specs.Option.{option_map, option_map_or}
 use Rattle.em_log.specs.declared.declarations.Declarations.{Declarations}
 use Rattle.em_log.specs.declared.ask.Ask.{Ask}
@@ -29,6 +30,10 @@ served k (Ask.Dequeue q) = true
 served k Ask.Cell = true
 served k (Ask.Say v) = true
 served k (Ask.EndAtomic cells) = true
+served k Ask.EndGroup = true
+served k (Ask.Apply g n notes) = list_all (λ n. serves_queue k n.queue.0) notes
+served k (Ask.Increment n) = true
+served k (Ask.Abort g) = true
 served k (Ask.End cells) = true
 served k ask = false
 

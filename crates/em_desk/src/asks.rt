@@ -31,6 +31,14 @@ impl Parts {
             Ask::Dequeue(queue) => self.dequeue(core, queue),
             Ask::Cell => self.cell(core),
             Ask::Say(value) => self.say(core, value),
+            Ask::Apply {
+                group,
+                count,
+                notes,
+            } => self.apply(core, group, count, notes),
+            Ask::Increment(n) => self.increment(core, n),
+            Ask::Abort(group) => self.abort(core, group),
+            Ask::EndGroup => self.end_group(core),
             Ask::EndAtomic(cells) => self.end_atomic(core, cells),
             Ask::End(cells) => self.end(core, cells),
             _ => Outcome::Done,
@@ -38,7 +46,7 @@ impl Parts {
     }
 
     /// Adds the fault of a refused ask.
-    fn refuse(&mut self, core: CoreId, call: Call, fault: Fault) -> Outcome
+    pub fn refuse(&mut self, core: CoreId, call: Call, fault: Fault) -> Outcome
         requires stands { Stands self.old }
         requires refused { (a : TheAsk) × MayAsk self.old.declarations self.old.history.past core.0 a × (1 ≤ cost_of_ask a) × (refusal self.old.declarations self.old.history.past core.0 a ≡ Some fault) × (call_of a ≡ call) }
         ensures stands { Stands self.new }

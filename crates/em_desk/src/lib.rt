@@ -2,6 +2,7 @@
 #![tactic(auto)]
 
 mod acts;
+mod applications;
 mod asks;
 mod atomic_queues;
 mod choices;
@@ -10,6 +11,7 @@ mod entries;
 mod history;
 mod laws;
 mod lines;
+mod notes;
 mod opening;
 mod outcome;
 mod parts;

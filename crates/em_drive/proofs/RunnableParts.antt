@@ -4,7 +4,7 @@ use Rattle.std.proofs.lemmas.Bool.{and_parts}
 use Rattle.std.specs.List.{list_all}
 use Rattle.em_log.specs.declared.graph.Config.{Config}
 use Rattle.em_log.specs.declared.graph.EoDecl.{EoDecl}
-use Rattle.em_drive.specs.Runnable.{is_runnable, is_runnable_object, is_runnable_queue, is_runnable_body, is_empty}
+use Rattle.em_drive.specs.Runnable.{is_runnable, is_runnable_object, is_runnable_queue, is_runnable_body}
 
 -- lists
 
@@ -36,14 +36,12 @@ none-of (Some x) h = absurd cc
 
 pub runnable-parts : (g : Config) → IsTrue (is_runnable g) → Parts g
 runnable-parts g h =
-    let no_groups : Bool = is_empty g.egroups in
     let objects : Bool = list_all is_runnable_object g.eos in
     let queues : Bool = list_all is_runnable_queue g.queues in
-    let a = and_parts (no_groups && objects && queues && is_runnable_body g.boot) (is_none g.error) h in
-    let b = and_parts (no_groups && objects && queues) (is_runnable_body g.boot) a.0 in
-    let c = and_parts (no_groups && objects) queues b.0 in
-    let d = and_parts no_groups objects c.0 in
-    record { objects = d.1; queues = c.1; boot = b.1; error = none-of g.error a.1 }
+    let a = and_parts (objects && queues && is_runnable_body g.boot) (is_none g.error) h in
+    let b = and_parts (objects && queues) (is_runnable_body g.boot) a.0 in
+    let c = and_parts objects queues b.0 in
+    record { objects = c.0; queues = c.1; boot = b.1; error = none-of g.error a.1 }
 
 pub runnable-no_error : (g : Config) → IsTrue (is_runnable g) → g.error ≡ None
 runnable-no_error g h = (runnable-parts g h).error

@@ -1,6 +1,7 @@
 -- What a context of a runnable graph runs, and what it asks.
 use Rattle.std.proofs.Common.{◌≡◌, ℕ, Bool, true, false, ◌&&◌, ◌||◌, List, [], ◌∷◌, Option, Some, None, refl, sym, subst, IsTrue}
 use Rattle.std.proofs.lemmas.Bool.{and_parts}
+use Rattle.std.specs.List.{list_all}
 use Rattle.std.specs.Option.{option_map_or, option_or}
 use Rattle.std.specs.Prelude.{slice_get}
 use Rattle.em_log.specs.declared.ask.Ask.{Ask}
@@ -8,7 +9,8 @@ use Rattle.em_log.specs.declared.ask.Context.{Context}
 use Rattle.em_log.specs.declared.body.Stmt.{Stmt}
 use Rattle.em_log.specs.declared.graph.Config.{Config}
 use Rattle.em_log.specs.declared.graph.EoDecl.{EoDecl}
-use Rattle.em_log.specs.Bodies.{ask_of}
+use Rattle.em_log.specs.declared.ids.Note.{Note}
+use Rattle.em_log.specs.Bodies.{ask_of, notes_in}
 use Rattle.em_log.specs.Expressions.{Env}
 use Rattle.em_log.specs.Legal.{body_for}
 use Rattle.em_log.specs.WellFormed.{IsWellFormed, Receive, Start, OtherOfObject, is_body, is_error_body, is_unwritten, are_given, are_bodies}
@@ -16,7 +18,7 @@ use Rattle.em_body.specs.Everywhere.{everywhere_in}
 use Rattle.em_body.specs.Standings.{body_of, error_body_of, entry_of, does_ask}
 use Rattle.em_body.proofs.AsksOfStatements.{asks-are}
 use Rattle.em_log.specs.Declarations.{declarations_of}
-use Rattle.em_desk.specs.Served.{served}
+use Rattle.em_desk.specs.Served.{served, serves_queue}
 use Rattle.em_drive.specs.Runnable.{is_runnable, is_runnable_object, is_runnable_statement}
 use Rattle.em_drive.specs.Servable.{IsServable}
 use Rattle.em_drive.proofs.OpenQueues.{sends-served}
@@ -99,6 +101,14 @@ runnable-errors g h context = rw (no-error_body g h context) refl
 
 -- ---- what a statement that runs asks is served
 
+-- all notes are
+notes-served : (g : Config) → IsWellFormed g → IsTrue (is_runnable g) → (ns : List Note) → list_all (λ n. serves_queue (declarations_of g) n.queue.0) ns ≡ true
+notes-served g well runs [] = refl
+notes-served g well runs (n ∷ ns) =
+    let here = sends-served g well runs n.queue.0 in
+    let rest = notes-served g well runs ns in
+    rw (here, rest) refl
+
 pub runnable-served : (g : Config) → IsWellFormed g → IsTrue (is_runnable g) → (s : Stmt) (v : Env) → IsTrue (is_runnable_statement s) → IsTrue (does_ask s v)
     → IsTrue (served (declarations_of g) (ask_of s v))
 runnable-served g well runs (Stmt.CellWrite c e) v h asks = refl
@@ -110,6 +120,10 @@ runnable-served g well runs (Stmt.Send e q) v h asks = sends-served g well runs 
 runnable-served g well runs (Stmt.Claim i) v h asks = refl
 runnable-served g well runs (Stmt.Dequeue i q) v h asks = refl
 runnable-served g well runs Stmt.EndAtomic v h asks = refl
+runnable-served g well runs Stmt.EndGroup v h asks = refl
+runnable-served g well runs (Stmt.Apply i e ns) v h asks = notes-served g well runs (notes_in ns v)
+runnable-served g well runs (Stmt.Increment e) v h asks = refl
+runnable-served g well runs (Stmt.Abort i) v h asks = refl
 runnable-served g well runs (Stmt.Set i e) v h asks = absurd cc
 runnable-served g well runs s v h asks = absurd cc
 

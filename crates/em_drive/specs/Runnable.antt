@@ -1,6 +1,6 @@
--- The graphs that run today: of any cores, queue groups and atomic groups, with pools, objects that run and have a receive body
--- alone, and queues of every kind but ordered.
-use Rattle.std.specs.Prelude.{Bool, true, false, not, ◌&&◌, ◌||◌, List, [], ◌∷◌, is_none}
+-- The graphs that run today: of any cores, queue groups, atomic groups and event groups, with pools, objects that run and have a
+-- receive body alone, and queues of every kind but ordered. No send is with an event group.
+use Rattle.std.specs.Prelude.{Bool, true, false, not, ◌&&◌, ◌||◌, List, is_none}
 use Rattle.std.specs.List.{list_all}
 use Rattle.em_log.specs.declared.body.Stmt.{Stmt}
 use Rattle.em_log.specs.declared.graph.Config.{Config}
@@ -21,6 +21,10 @@ is_runnable_statement (Stmt.Send e q) = true
 is_runnable_statement (Stmt.Claim v) = true
 is_runnable_statement (Stmt.Dequeue v q) = true
 is_runnable_statement Stmt.EndAtomic = true
+is_runnable_statement Stmt.EndGroup = true
+is_runnable_statement (Stmt.Apply g e ns) = true
+is_runnable_statement (Stmt.Increment e) = true
+is_runnable_statement (Stmt.Abort g) = true
 is_runnable_statement s = false
 
 abbrev pub is_runnable_body : List Stmt → Bool
@@ -39,11 +43,6 @@ is_runnable_kind _ = true
 abbrev pub is_runnable_queue : QueueDecl → Bool
 is_runnable_queue d = is_runnable_kind d.kind
 
-abbrev pub is_empty : {A : Type 0} → List A → Bool
-is_empty [] = true
-is_empty (x ∷ xs) = false
-
 abbrev pub is_runnable : Config → Bool
 is_runnable g =
-    is_empty g.egroups && list_all is_runnable_object g.eos && list_all is_runnable_queue g.queues && is_runnable_body g.boot
-    && is_none g.error
+    list_all is_runnable_object g.eos && list_all is_runnable_queue g.queues && is_runnable_body g.boot && is_none g.error

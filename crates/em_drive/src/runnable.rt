@@ -29,7 +29,11 @@ fn is_runnable_statement(statement: &Stmt) -> bool
         | Stmt::Send { .. }
         | Stmt::Claim { .. }
         | Stmt::Dequeue { .. }
-        | Stmt::EndAtomic => true,
+        | Stmt::EndAtomic
+        | Stmt::EndGroup
+        | Stmt::Apply { .. }
+        | Stmt::Increment(_)
+        | Stmt::Abort(_) => true,
         _ => false,
     }
 }
@@ -77,8 +81,7 @@ fn are_runnable_queues(queues: &[QueueDecl]) -> bool
 fn is_runnable_graph(config: &Config) -> bool
     ensures { result ≡ runnable.is_runnable config.now }
 {
-    config.egroups.as_slice().is_empty()
-        && are_runnable_objects(config.eos.as_slice())
+    are_runnable_objects(config.eos.as_slice())
         && are_runnable_queues(config.queues.as_slice())
         && is_runnable_body(config.boot.as_slice())
         && config.error.is_none()
