@@ -28,6 +28,7 @@ use Rattle.em_desk.specs.declared.parts.Parts.{Parts}
 use Rattle.em_egroups.specs.Stands as groups
 use Rattle.em_context_parts.specs.AtomicSteps.{atomic_steps, ended_steps}
 use Rattle.em_context_parts.specs.EgroupSteps.{egroup_steps, left_steps}
+use Rattle.em_operations.proofs.Kept.{operations-kept}
 use Rattle.em_desk.specs.Atomics.{AtomicsStand, CanGive}
 use Rattle.em_desk.specs.Openings.{opening_at, opening_of}
 use Rattle.em_bounds.specs.Room.{needed}
@@ -127,6 +128,7 @@ end-stands p q c lost cells s may count stands shapes spare given opens =
         steps = subst (λ (o : Option Stamp). groups.Stands p.groups (left_steps o (egroup_steps p.history.past))) (sym (no-open-stamp p.declarations p.limits p.history.past c s.all s.served)) s.groups.steps;
         count = s.groups.count;
       };
+      operations = operations-kept p.declarations p.operations p.history.past c (What.End lost cells) refl s.operations;
       ready = tt;
       kept = kept-same p.declarations p.history.past (entry_by c (What.End lost cells) ∷ p.history.past) p.kept (λ x. refl) s.kept;
       cores = ap length opens ∙ length-set p.contexts.items c Opening.Closed;

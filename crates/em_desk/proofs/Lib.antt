@@ -33,6 +33,6 @@ mod Receives
 mod Ended
 mod Built
 mod TakeAnswers
-mod QueueSets
+mod Flags
 mod AtomicSets
 mod HeldAtomics

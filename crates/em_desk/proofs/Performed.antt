@@ -19,6 +19,7 @@ use Rattle.em_pool.specs.Stands as pools
 use Rattle.em_queues.specs.Steps.{QueueStep, is_listed}
 use Rattle.em_queues.specs.State.{shape, is_listed_at}
 use Rattle.em_queues.specs.Stands as queues
+use Rattle.em_operations.proofs.Kept.{operations-kept}
 use Rattle.em_desk.specs.declared.acts.Act.{Act}
 use Rattle.em_desk.specs.declared.acts.Entrance.{Entrance}
 use Rattle.em_desk.specs.declared.parts.Parts.{Parts}
@@ -140,7 +141,7 @@ performed p q c a acts s pool_stands shapes spare queue_stands same = by_says a.
         → Standing (record p { history = record p.history { past = past_after c o p.history.past }; pools = q.pools; queues = q.queues }) c acts
     by_says None is may =
         record {
-          fixed = record { graph = s.fixed.graph; limits = s.fixed.limits; cores = s.fixed.cores; allowed = s.fixed.allowed };
+          fixed = record { graph = s.fixed.graph; limits = s.fixed.limits };
           all = s.all;
           served = s.served;
           core = core-tail p.declarations c acts s.core;
@@ -155,6 +156,7 @@ performed p q c a acts s pool_stands shapes spare queue_stands same = by_says a.
           queue_shape = same ∙ s.queue_shape;
           atomics = s.atomics;
           groups = s.groups;
+          operations = s.operations;
           ready = ready;
           kept = s.kept;
           cores = s.cores;
@@ -170,7 +172,7 @@ performed p q c a acts s pool_stands shapes spare queue_stands same = by_says a.
         let first : due p.declarations p.history.past ≡ e ∷ entries_by c (said acts) = told-first p c a acts (What.Out r kind words) s is in
         let sum = needed-out p.declarations p.history.past c r kind words e (entries_by c (said acts)) first in
         record {
-          fixed = record { graph = s.fixed.graph; limits = s.fixed.limits; cores = s.fixed.cores; allowed = s.fixed.allowed };
+          fixed = record { graph = s.fixed.graph; limits = s.fixed.limits };
           all = told-all p c a acts (What.Out r kind words) s is;
           served = (refl, s.served);
           core = core-tail p.declarations c acts s.core;
@@ -185,6 +187,7 @@ performed p q c a acts s pool_stands shapes spare queue_stands same = by_says a.
           queue_shape = same ∙ s.queue_shape;
           atomics = s.atomics;
           groups = groups-kept p.declarations p.groups p.history.past c (What.Out r kind words) refl s.groups;
+          operations = operations-kept p.declarations p.operations p.history.past c (What.Out r kind words) refl s.operations;
           ready = ready;
           kept = record { count = s.kept.count; room = s.kept.room; lists = s.kept.lists; once = s.kept.once; below = s.kept.below };
           cores = s.cores;

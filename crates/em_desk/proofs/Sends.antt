@@ -12,7 +12,6 @@ use Rattle.em_log.specs.History.{Past, entry_by, has, index_of}
 use Rattle.em_log.specs.Declarations.{event_total, kind_of, is_output}
 use Rattle.em_log.specs.Handles.{Minting, Spending, minting, spending, rule, rule_of}
 use Rattle.em_log.specs.Order.{Ticket}
-use Rattle.em_log.specs.States.{closed}
 use Rattle.em_log.specs.Arrivals.{Item}
 use Rattle.em_log.specs.Places.{waiting, taken, has_item}
 use Rattle.em_log.specs.Leads.{refusal, closed_fault}
@@ -37,10 +36,8 @@ use Rattle.em_places.specs.Parked.{InContext, InQueue, InTaken, Sits}
 use Rattle.em_places.proofs.Parked.{parked-sit}
 use Rattle.em_desk.specs.declared.parts.Parts.{Parts}
 use Rattle.em_desk.specs.Acts.{send_act, IsReady}
-use Rattle.em_desk.specs.Served.{is_free_of_order}
 use Rattle.em_desk.specs.Standing.{Standing, Stands, AreKept}
 use Rattle.em_desk.specs.State.{MayAsk}
-use Rattle.em_desk.proofs.Served.{closed-declared}
 use Rattle.em_desk.proofs.Unordered.{no-ticket}
 use Rattle.em_desk.proofs.Listed.{Located, InQueue as ListedQueue, IsTaken, located}
 use Rattle.em_desk.proofs.Asked.{steps_of, own-lead, kept-same}
@@ -144,10 +141,6 @@ send-ready p e c w q s lt core queue absent = by_kind (is_output (kind_of p.decl
     by_kind true t = rw t (record { moves = (lt, (can, refl)); enters = tt; says = tt })
     by_kind false t = rw t (record { moves = tt; enters = (lt, (queue, (core, absent))); says = tt })
 
-none-is : (o : Option ℕ) → is_none o ≡ true → o ≡ None
-none-is None h = refl
-none-is (Some x) h = absurd cc
-
 first-and : (a b : Bool) → (a && b) ≡ true → a ≡ true
 first-and true b h = refl
 first-and false b h = absurd cc
@@ -156,30 +149,25 @@ last-and : (a b : Bool) → (a && b) ≡ true → b ≡ true
 last-and true b h = h
 last-and false b h = absurd cc
 
--- the queue is open
-pub open-now : (p : Parts) (c w : ℕ) (q : QueueId) → Stands p → MayAsk p.declarations p.history.past c (Ask.Send w q None) → closed p.declarations p.history.past q.0 ≡ None
-open-now p c w q s may =
-    closed-declared p.declarations p.history.past q.0 s.served
-    ∙ none-is (closed p.declarations [] q.0) (last-and (is_free_of_order p.declarations q.0) (is_none (closed p.declarations [] q.0)) may.served)
+-- it is refused for its word, and then for its queue
+pub word-refused : (p : Parts) (c w : ℕ) (q : QueueId) (f : Fault) → rule p.history.past c w ≡ Some f → refusal p.declarations p.history.past c (Ask.Send w q None) ≡ Some f
+word-refused p c w q f spent = ap (λ (r : Option Fault). option_or r (closed_fault p.declarations p.history.past q.0)) spent
 
-pub send-refusal : (p : Parts) (c w : ℕ) (q : QueueId) (o : Option Fault) → Stands p → MayAsk p.declarations p.history.past c (Ask.Send w q None) → rule p.history.past c w ≡ o
+pub send-refusal : (p : Parts) (c w : ℕ) (q : QueueId) (o : Option Fault) → rule p.history.past c w ≡ None → o ≡ closed_fault p.declarations p.history.past q.0
     → refusal p.declarations p.history.past c (Ask.Send w q None) ≡ o
-send-refusal p c w q None s may ok =
-    ap (λ (f : Option Fault). option_or f (closed_fault p.declarations p.history.past q.0)) ok
-    ∙ ap (option_map (λ (why : ℕ). Fault.QueueClosed why)) (open-now p c w q s may)
-send-refusal p c w q (Some f) s may ok = ap (λ (f : Option Fault). option_or f (closed_fault p.declarations p.history.past q.0)) ok
+send-refusal p c w q o ok is = ap (λ (r : Option Fault). option_or r (closed_fault p.declarations p.history.past q.0)) ok ∙ sym is
 
 abbrev number_of : Ticket → ℕ
 number_of t = t.number
 
 pub send-asked : (p : Parts) (c w : ℕ) (q : QueueId) → Stands p → MayAsk p.declarations p.history.past c (Ask.Send w q None) → rule p.history.past c w ≡ None
-    → IsAsked p c (Ask.Send w q None) (send_of w q)
-send-asked p c w q s may ok =
+    → None ≡ closed_fault p.declarations p.history.past q.0 → IsAsked p c (Ask.Send w q None) (send_of w q)
+send-asked p c w q s may ok open_now =
     record {
       core = may.core;
       may = may.may;
       gives = ap (λ (t : Option Ticket). What.Send (record { 0 = w }) q (option_map number_of t) None) (sym (no-ticket p.declarations p.limits p.history.past c s.all s.served))
-          ∙ own-lead p.declarations p.history.past c (Ask.Send w q None) (send-refusal p c w q None s may ok);
+          ∙ own-lead p.declarations p.history.past c (Ask.Send w q None) (send-refusal p c w q None ok open_now);
       enough = may.enough;
       mild = record {
         context = λ o. refl;
@@ -187,19 +175,20 @@ send-asked p c w q s may ok =
         begun = λ n c o. refl;
         started = λ n. refl;
         pays = omega arith;
+        operations = refl;
       };
     }
 
 pub send-begun : (p q : Parts) (c w : ℕ) (to : QueueId) (e : Event) → Stands p → MayAsk p.declarations p.history.past c (Ask.Send w to None) → rule p.history.past c w ≡ None
-    → index_of w < event_total p.pools.pools → to.0 < length p.declarations.queues → event_at p.pools (index_of w) ≡ Some e
+    → None ≡ closed_fault p.declarations p.history.past to.0 → index_of w < event_total p.pools.pools → to.0 < length p.declarations.queues → event_at p.pools (index_of w) ≡ Some e
     → pools.Stands q.pools (Spent c w (Spend.Sent to) (length p.history.past) ∷ steps_of p) → q.pools.pools ≡ p.pools.pools → q.pools.spare ≡ p.pools.spare → q.kept ≡ p.kept
     → Standing (record p { history = pushed p c (send_of w to); pools = q.pools; kept = q.kept }) c (send_act p.declarations e c w to ∷ [])
-send-begun p q c w to e s may ok within queue event stands shapes spare kept =
+send-begun p q c w to e s may ok open_now within queue event stands shapes spare kept =
     let ours = is-ours p c w s ok in
     let inside : index_of w < event_total p.declarations.pools = subst (λ ps. index_of w < event_total ps) s.pool_shape within in
     let same : ours.minter.event ≡ e = some-inj _ _ (sym (event-is p w s ours) ∙ event) in
     subst (λ (e : Event). Standing (record p { history = pushed p c (send_of w to); pools = q.pools; kept = q.kept }) c (send_act p.declarations e c w to ∷ [])) same
-    (asked-begun p (record q { queues = p.queues; atomics = p.atomics; groups = p.groups }) c (Ask.Send w to None) (send_of w to) (send_act p.declarations ours.minter.event c w to ∷ []) s (send-asked p c w to s may ok) may.served
+    (asked-begun p (record q { queues = p.queues; atomics = p.atomics; groups = p.groups }) c (Ask.Send w to None) (send_of w to) (send_act p.declarations ours.minter.event c w to ∷ []) s (send-asked p c w to s may ok open_now) may.served
     (send-cause p.declarations p.history.past c w to ours.minter ours.minting) may.core stands shapes (omega (arith, spare)) (settled-queues p 0 s) refl s.atomics
     (groups-kept p.declarations p.groups p.history.past c (send_of w to) refl s.groups)
     (send-ready p ours.minter.event c w to s inside may.core queue (is-unlisted p w s ours), (refl, tt))

@@ -23,7 +23,7 @@ use Rattle.em_log.specs.Lawful.{AllAllowed, is_boot_or_receive}
 use Rattle.em_arrivals.proofs.Lists.{AllSent}
 use Rattle.em_moments.proofs.Moments.{Moment, EntersBoot, EntersStep, allowed-moment}
 use Rattle.em_laws.proofs.Cores.{Compared, Same, Other, compared, eqb-eq, none-some, some-inj}
-use Rattle.em_desk.specs.Served.{AllServed, is_served_entry, is_free_of_order, serves_queue}
+use Rattle.em_desk.specs.Served.{AllServed, is_served_entry, is_free_of_order}
 use Rattle.em_desk.proofs.Served.{no-notes, applied-served, no-step}
 
 -- no stamp
@@ -44,7 +44,7 @@ both-true false b h = absurd cc
 
 pub sent-served : (k : Declarations) (h : Handle) (q : QueueId) (t : Option ℕ) (s : Option Stamp) → IsTrue (is_served_entry k (What.Send h q t s))
     → (s ≡ None) × ((is_free_of_order k q.0 ≡ true))
-sent-served k h q t None served = (refl, (both-true (is_free_of_order k q.0) _ served).0)
+sent-served k h q t None served = (refl, served)
 sent-served k h q t (Some s) served = absurd (cc served)
 
 all-append : (xs ys : List Item) → Unstamped xs → Unstamped ys → Unstamped (xs ++ ys)
@@ -70,11 +70,11 @@ note-plain : (k : Declarations) (d : ℕ) (n : Note) (o : Option ℕ) (s : Sent)
 note-plain k d n None s free is = subst (IsPlain k) (some-inj _ _ is) (refl, free)
 note-plain k d n (Some why) s free is = absurd (none-some s is)
 
-notes-plain : (k : Declarations) (now : Past) (d : ℕ) (ns : List Note) → list_all (λ n. serves_queue k n.queue.0) ns ≡ true → AllSent (IsPlain k) (open_notes k now d ns)
+notes-plain : (k : Declarations) (now : Past) (d : ℕ) (ns : List Note) → list_all (λ n. is_free_of_order k n.queue.0) ns ≡ true → AllSent (IsPlain k) (open_notes k now d ns)
 notes-plain k now d [] served = tt
 notes-plain k now d (n ∷ ns) served =
-    let parts = both-true (serves_queue k n.queue.0) (list_all (λ n. serves_queue k n.queue.0) ns) served in
-    let free = (both-true (is_free_of_order k n.queue.0) _ parts.0).0 in
+    let parts = both-true (is_free_of_order k n.queue.0) (list_all (λ n. is_free_of_order k n.queue.0) ns) served in
+    let free = parts.0 in
     with-plain k (note_entering d n (closed k now n.queue.0)) (open_notes k now d ns) (λ s is. note-plain k d n (closed k now n.queue.0) s free is) (notes-plain k now d ns parts.1)
 
 entered : (k : Declarations) (l : Limits) (past : Past) (d : ℕ) (w : What) → IsTrue (is_served_entry k w) → AllServed k past → IsUnordered k past → Moment k l past d w → Entered k past d w

@@ -18,7 +18,7 @@ use Rattle.em_body.specs.Everywhere.{everywhere_in}
 use Rattle.em_body.specs.Standings.{body_of, error_body_of, entry_of, does_ask}
 use Rattle.em_body.proofs.AsksOfStatements.{asks-are}
 use Rattle.em_log.specs.Declarations.{declarations_of}
-use Rattle.em_desk.specs.Served.{served, serves_queue}
+use Rattle.em_desk.specs.Served.{served, is_free_of_order}
 use Rattle.em_drive.specs.Runnable.{is_runnable, is_runnable_object, is_runnable_statement}
 use Rattle.em_drive.specs.Servable.{IsServable}
 use Rattle.em_drive.proofs.OpenQueues.{sends-served}
@@ -102,10 +102,10 @@ runnable-errors g h context = rw (no-error_body g h context) refl
 -- ---- what a statement that runs asks is served
 
 -- all notes are
-notes-served : (g : Config) → IsWellFormed g → IsTrue (is_runnable g) → (ns : List Note) → list_all (λ n. serves_queue (declarations_of g) n.queue.0) ns ≡ true
+notes-served : (g : Config) → IsWellFormed g → IsTrue (is_runnable g) → (ns : List Note) → list_all (λ n. is_free_of_order (declarations_of g) n.queue.0) ns ≡ true
 notes-served g well runs [] = refl
 notes-served g well runs (n ∷ ns) =
-    let here = sends-served g well runs n.queue.0 in
+    let here = sends-served g runs n.queue.0 in
     let rest = notes-served g well runs ns in
     rw (here, rest) refl
 
@@ -116,9 +116,11 @@ runnable-served g well runs (Stmt.Say e) v h asks = refl
 runnable-served g well runs (Stmt.Alloc i p e ws) v h asks = refl
 runnable-served g well runs (Stmt.Free e) v h asks = refl
 runnable-served g well runs (Stmt.Keep e) v h asks = refl
-runnable-served g well runs (Stmt.Send e q) v h asks = sends-served g well runs q.0
+runnable-served g well runs (Stmt.Send e q) v h asks = sends-served g runs q.0
 runnable-served g well runs (Stmt.Claim i) v h asks = refl
 runnable-served g well runs (Stmt.Dequeue i q) v h asks = refl
+runnable-served g well runs (Stmt.Enable q) v h asks = refl
+runnable-served g well runs (Stmt.Disable q) v h asks = refl
 runnable-served g well runs Stmt.EndAtomic v h asks = refl
 runnable-served g well runs Stmt.EndGroup v h asks = refl
 runnable-served g well runs (Stmt.Apply i e ns) v h asks = notes-served g well runs (notes_in ns v)
