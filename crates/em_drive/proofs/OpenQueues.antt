@@ -1,5 +1,5 @@
 -- The queues of a graph that runs today draw no tickets, so that the desk serves sends to them.
-use Rattle.std.proofs.Common.{◌≡◌, ℕ, ◌∙◌, Bool, true, false, not, Option, Some, None, refl, ap, IsTrue, slice_get}
+use Rattle.std.proofs.Common.{◌≡◌, ℕ, ◌∙◌, true, not, Option, Some, None, refl, ap, IsTrue, slice_get}
 use Rattle.std.proofs.lemmas.Option.{slice_get-map}
 use Rattle.std.specs.Option.{option_map, option_map_or}
 use Rattle.em_log.specs.declared.declarations.QueueShape.{QueueShape}

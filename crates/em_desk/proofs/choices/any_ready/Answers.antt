@@ -1,4 +1,4 @@
-use Rattle.std.proofs.Common.{◌≡◌, ◌∙◌, ℕ, ◌+◌, ◌<◌, List, length, Bool, true, false, not, ◌&&◌, nat_lt, Option, Some, None, is_some, refl, ap, sym, subst, arith}
+use Rattle.std.proofs.Common.{◌≡◌, ◌∙◌, ℕ, ◌+◌, ◌<◌, List, length, Bool, true, false, not, ◌&&◌, nat_lt, Option, Some, None, is_some, ap, sym, subst, arith}
 use Rattle.std.specs.Option.{MatchOption}
 use Rattle.em_log.specs.declared.declarations.Declarations.{Declarations}
 use Rattle.em_log.specs.declared.ids.QueueId.{QueueId}

@@ -1,4 +1,4 @@
-use Rattle.std.proofs.Common.{◌≡◌, ◌≢◌, ◌∙◌, ◌&&◌, not, ◌<◌, ℕ, length, get_or, true, false, Option, Some, None, subst, arith}
+use Rattle.std.proofs.Common.{◌≡◌, ◌≢◌, ◌∙◌, ◌&&◌, not, ℕ, true, false, Option, Some, None}
 use Rattle.std.specs.Option.{MatchOption}
 use Rattle.em_log.specs.declared.ids.QueueId.{QueueId}
 use Rattle.em_log.specs.Eligible.{is_choice}

@@ -1,4 +1,4 @@
-use Rattle.std.proofs.Common.{◌≡◌, ◌≢◌, ◌∙◌, ℕ, ◌<◌, ◌==◌, Bool, not, ◌&&◌, [], List, length, true, false, get_or, ap, sym, subst, arith, refl}
+use Rattle.std.proofs.Common.{◌≡◌, ◌≢◌, ◌∙◌, ℕ, ◌==◌, Bool, not, ◌&&◌, [], List, length, true, false, ap, sym, subst, arith, refl}
 use Rattle.std.specs.List.{list_all}
 use Rattle.em_log.specs.Contexts.{boot_ended}
 use Rattle.em_log.specs.Eligible.{is_idle, is_wanted}

@@ -59,8 +59,8 @@ not-some : (o : Option Fault) → ((f : Fault) → o ≡ Some f → ⊥) → o �
 not-some None unsome = refl
 not-some (Some f) unsome = absurd (unsome f refl)
 
-pub refuse-2-requires-clause-refused : goal.refuse-2-requires-clause-refused
-refuse-2-requires-clause-refused c =
+pub refuse-in-Some-requires-clause-refused : goal.refuse-in-Some-requires-clause-refused
+refuse-in-Some-requires-clause-refused c =
     let p = c.args.self.now in (
       Ask.Send c.args.word c.args.queue None,
       c.requires.may,
@@ -73,7 +73,7 @@ refuse-2-requires-clause-refused c =
 pub returns-in-Some-clause-adds : goal.returns-in-Some-clause-adds
 returns-in-Some-clause-adds c =
     let p = c.args.self.now in
-    c.refuse-2.ensures.adds (Ask.Send c.args.word c.args.queue None)
+    c.refuse-in-Some.ensures.adds (Ask.Send c.args.word c.args.queue None)
     (send-refusal p c.args.core.0 c.args.word c.args.queue (Some c.in-Some.fault) (rule-is p c.args.core.0 c.args.word None c.requires.stands c.in_default.ensures.answer)
     (closed-now p c.args.queue c.closed_fault.result (Some c.in-Some.fault) c.requires.stands c.closed_fault.ensures c.in-Some.is)) refl
 
@@ -84,14 +84,14 @@ push-requires-clause-room c =
     (asked-room c.args.self.now c.args.core.0 (Ask.Send c.args.word c.args.queue None) (send_of c.args.word c.args.queue) c.requires.stands
     (send-asked c.args.self.now c.args.core.0 c.args.word c.args.queue c.requires.stands c.requires.may
     (rule-is c.args.self.now c.args.core.0 c.args.word None c.requires.stands c.in_default.ensures.answer)
-    (closed-now c.args.self.now c.args.queue c.closed_fault.result None c.requires.stands c.closed_fault.ensures (not-some c.closed_fault.result (λ f is. c.in_default-2.not-Some f is))))).length
+    (closed-now c.args.self.now c.args.queue c.closed_fault.result None c.requires.stands c.closed_fault.ensures (not-some c.closed_fault.result (λ f is. c.in_default-closed_fault.not-Some f is))))).length
 
 pub push-requires-clause-paid : goal.push-requires-clause-paid
 push-requires-clause-paid c =
     (asked-room c.args.self.now c.args.core.0 (Ask.Send c.args.word c.args.queue None) (send_of c.args.word c.args.queue) c.requires.stands
     (send-asked c.args.self.now c.args.core.0 c.args.word c.args.queue c.requires.stands c.requires.may
     (rule-is c.args.self.now c.args.core.0 c.args.word None c.requires.stands c.in_default.ensures.answer)
-    (closed-now c.args.self.now c.args.queue c.closed_fault.result None c.requires.stands c.closed_fault.ensures (not-some c.closed_fault.result (λ f is. c.in_default-2.not-Some f is))))).paid
+    (closed-now c.args.self.now c.args.queue c.closed_fault.result None c.requires.stands c.closed_fault.ensures (not-some c.closed_fault.result (λ f is. c.in_default-closed_fault.not-Some f is))))).paid
 
 -- the parts after the entry
 stood : (p : Parts) (n w place : ℕ) (to : QueueId) (act : Act) (h : HistoryState) (v : PoolState) → Stands p → MayAsk p.declarations p.history.past n (Ask.Send w to None)
@@ -114,7 +114,7 @@ perform-requires c =
       [],
       stood p c.args.core.0 c.args.word c.place-place.result c.args.queue c.sending-act.result c.push.new.self c.spend.new.self c.requires.stands c.requires.may
           (rule-is p c.args.core.0 c.args.word None c.requires.stands c.in_default.ensures.answer)
-          (closed-now p c.args.queue c.closed_fault.result None c.requires.stands c.closed_fault.ensures (not-some c.closed_fault.result (λ f is. c.in_default-2.not-Some f is))) c.in_default.ensures.within c.spend.ensures.stands c.spend.ensures.value c.place-place.ensures
+          (closed-now p c.args.queue c.closed_fault.result None c.requires.stands c.closed_fault.ensures (not-some c.closed_fault.result (λ f is. c.in_default-closed_fault.not-Some f is))) c.in_default.ensures.within c.spend.ensures.stands c.spend.ensures.value c.place-place.ensures
           c.sending-act.ensures c.push.ensures,
     )
 
@@ -124,7 +124,7 @@ returns-clause-stands c =
     at-rest c.perform.new.self c.args.core.0 (c.perform.ensures.stands []
     (stood p c.args.core.0 c.args.word c.place-place.result c.args.queue c.sending-act.result c.push.new.self c.spend.new.self c.requires.stands c.requires.may
     (rule-is p c.args.core.0 c.args.word None c.requires.stands c.in_default.ensures.answer)
-          (closed-now p c.args.queue c.closed_fault.result None c.requires.stands c.closed_fault.ensures (not-some c.closed_fault.result (λ f is. c.in_default-2.not-Some f is))) c.in_default.ensures.within c.spend.ensures.stands c.spend.ensures.value c.place-place.ensures
+          (closed-now p c.args.queue c.closed_fault.result None c.requires.stands c.closed_fault.ensures (not-some c.closed_fault.result (λ f is. c.in_default-closed_fault.not-Some f is))) c.in_default.ensures.within c.spend.ensures.stands c.spend.ensures.value c.place-place.ensures
     c.sending-act.ensures c.push.ensures))
 
 -- one act is all that follows
@@ -141,7 +141,7 @@ returns-clause-adds c =
     let ours = is-ours p n w c.requires.stands ok in
     let act = c.sending-act.ensures ours.minter.event (event-is p w c.requires.stands ours) in
     let e = send-asked p n w c.args.queue c.requires.stands c.requires.may ok
-    (closed-now p c.args.queue c.closed_fault.result None c.requires.stands c.closed_fault.ensures (not-some c.closed_fault.result (λ f is. c.in_default-2.not-Some f is))) in
+    (closed-now p c.args.queue c.closed_fault.result None c.requires.stands c.closed_fault.ensures (not-some c.closed_fault.result (λ f is. c.in_default-closed_fault.not-Some f is))) in
     adds-acts p c.perform.new.self n (Ask.Send w c.args.queue None) (send_of w c.args.queue) (send_act p.declarations ours.minter.event n w c.args.queue ∷ []) _
     (c.perform.ensures.past ∙ (ap (λ (h : HistoryState). past_after n c.sending-act.result.says h.past) c.push.ensures
     ∙ (ap (λ (a : Act). past_after n a.says (entry_by n (send_of w c.args.queue) ∷ p.history.past)) act
