@@ -25,3 +25,4 @@ pub mod WorkAsks
 pub mod WorkerLists
 pub mod LastEntries
 pub mod WorkedRuns
+pub mod BodyWorks
