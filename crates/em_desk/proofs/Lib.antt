@@ -11,6 +11,7 @@ mod HandedNotes
 mod GroupAsks
 mod FreedNotes
 mod Aborts
+mod CompletedNotes
 mod Performed
 mod Listed
 mod Asked

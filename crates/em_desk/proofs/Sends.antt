@@ -76,12 +76,12 @@ event-is p w s o =
     ∙ ap (option_map pool.event_of) mint)
 
 -- an index in a list of items is that of an item
-record ItemAt (xs : List Item) (i : ℕ) : Type 0 where
-  handle : ℕ
-  there : has_item xs handle ≡ true
-  index : index_of handle ≡ i
+pub record ItemAt (xs : List Item) (i : ℕ) : Type 0 where
+  pub handle : ℕ
+  pub there : has_item xs handle ≡ true
+  pub index : index_of handle ≡ i
 
-item-at : (xs : List Item) (i : ℕ) → has (map index_in xs) i ≡ true → ItemAt xs i
+pub item-at : (xs : List Item) (i : ℕ) → has (map index_in xs) i ≡ true → ItemAt xs i
 item-at [] i h = absurd (cc h)
 item-at (x ∷ xs) i h = by_test (index_of x.handle == i) refl h (item-at xs i)
   where
