@@ -56,7 +56,7 @@ may-stand k past c opened a is declared typed placed =
     (and_from (is_declared k a) (is_typed a) declared typed)
     (subst (λ (o : Option What). IsTrue (is_placed o (holds k past c) a)) (sym begun) placed)
 
-none-of : {A B : Type 0} (o : Option A) (p : Option B) → is_some o ≡ is_some p → p ≡ None → o ≡ None
+pub none-of : {A B : Type 0} (o : Option A) (p : Option B) → is_some o ≡ is_some p → p ≡ None → o ≡ None
 none-of None p same none = refl
 none-of (Some x) p same none = absurd (cc (rw none at same))
 
@@ -85,7 +85,7 @@ pub record WorkEnds (g : Config) (desk : DeskState) (c : ℕ) (run : CoreRun Run
   pub hold : is_some (holds (declarations_of g) desk.past c) ≡ is_some cells
 
 -- the end of a body changes nothing
-end-same : (was now : Standing) → Steps was Move.End now → now ≡ was
+pub end-same : (was now : Standing) → Steps was Move.End now → now ≡ was
 end-same was now (Ends none empty is same) = same
 end-same was now (Goes s none first (Sets i e is silent new)) = absurd cc
 end-same was now (Goes s none first (Branches t yes' no' has_else is silent new)) = absurd cc
@@ -93,10 +93,10 @@ end-same was now (Goes s none first (Repeats n block is silent new)) = absurd cc
 end-same was now (Goes s none first (Writes c e cells is some silent new)) = absurd cc
 end-same was now (Goes s none first (Asks does is new)) = absurd cc
 
-abbrev cells_of : Option (List ℕ) → Option Cells
+abbrev pub cells_of : Option (List ℕ) → Option Cells
 cells_of o = option_map (λ (cs : List ℕ). record { 0 = cs }) o
 
-carried-some : (o : Option (List ℕ)) → is_some (cells_of o) ≡ is_some o
+pub carried-some : (o : Option (List ℕ)) → is_some (cells_of o) ≡ is_some o
 carried-some None = refl
 carried-some (Some cs) = refl
 

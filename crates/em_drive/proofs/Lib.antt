@@ -25,3 +25,5 @@ pub mod WorkAsks
 pub mod WorkerLists
 pub mod LastEntries
 pub mod WorkedRuns
+pub mod BodyWorks
+pub mod Crossing

@@ -6,3 +6,4 @@ pub mod Readings
 pub mod Going
 pub mod Driven
 pub mod Parallel
+pub mod Bodies

@@ -1,6 +1,7 @@
 //! Runs of a graph: its cores ask in turns on one thread, or each in a thread of its own.
 #![tactic(auto)]
 
+mod bodies;
 mod driver;
 mod idle;
 mod order;
@@ -11,6 +12,7 @@ mod starts;
 mod turns;
 mod workers;
 
+pub use bodies::{in_turns, threads};
 pub use driver::{CoreEnd, Turned, drive};
 pub use order::Order;
 pub use parallel::{works, works_in_turns};
