@@ -1,7 +1,8 @@
 //! Runs of whole scripts with a thread for each core.
 #![tactic(auto)]
 
-#[cfg(test)]
 mod meeting;
 #[cfg(test)]
 mod tests;
+
+pub use meeting::Meeting;

@@ -16,7 +16,7 @@ use em_script::{ScriptEnd, parse, print};
 use std::alloc::Global;
 
 /// The most bytes that a script may have.
-const MOST_BYTES: usize = 65536;
+pub const MOST_BYTES: usize = 65536;
 
 /// What running the graph comes to. Err is want of memory.
 fn run<G: Gate>(alloc: Global, graph: &Config, asked: &Solo, gate: &G) -> Result<Outcome, NoMemory>

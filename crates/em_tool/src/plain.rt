@@ -91,7 +91,7 @@ fn end_status(end: EndKind) -> u8
 }
 
 /// The status that is due.
-fn status(outcome: &Outcome) -> u8
+pub fn status(outcome: &Outcome) -> u8
     ensures { result ≡ status_of outcome.now }
 {
     match outcome {

@@ -2,7 +2,7 @@
 #![tactic(auto)]
 
 use em_io::{StdSink, StdSource};
-use em_tool::{NoGate, em_plain};
+use em_main::{NoGate, em_main};
 use std::alloc::AllocError;
 use std::process::ExitCode;
 use std::rt::Env;
@@ -26,7 +26,8 @@ fn main(rt: HostRuntime) -> ExitCode {
     };
     let mut source = StdSource::new(rt.reader());
     let mut sink = StdSink::new(io::writer(&rt));
-    ExitCode::from(em_plain(
+    ExitCode::from(em_main(
+        &rt,
         rt.alloc(),
         words.as_slice(),
         &mut source,
