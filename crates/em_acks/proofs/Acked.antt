@@ -7,7 +7,7 @@ use Rattle.em_log.specs.Declarations.{below, numbers_from}
 use Rattle.em_log.specs.Operations.{last_if}
 use Rattle.em_acks.specs.Steps.{AckStep, Began, GlobalEnded, Acknowledged}
 use Rattle.em_acks.specs.Operations.{acked, all_acked, not_acked, last_acker}
-use Rattle.em_acks.proofs.CoreLemmas.{has-passing, without-passing}
+use Rattle.em_acks.proofs.WordLemmas.{has-passing, without-passing}
 
 abbrev pub is_nil : List ℕ → Bool
 is_nil [] = true

@@ -19,7 +19,7 @@ use Rattle.em_acks.specs.Stands.{Stands, unfinished_as, unfinished_at, all_unfin
 use Rattle.em_acks.proofs.Acked.{acked-has, has-left, last-none, last-some}
 use Rattle.em_acks.proofs.Numbers.{find-from, find-above}
 
-eqb-swap : (a b : ℕ) → (a == b) ≡ (b == a)
+pub eqb-swap : (a b : ℕ) → (a == b) ≡ (b == a)
 eqb-swap a b = ⊎_elim (λ e. eq-eqb a b e ∙ sym (eq-eqb b a (sym e))) (λ ne. ne_eqb a b ne ∙ sym (ne_eqb b a (λ e. ne (sym e)))) (cases_eq a b)
 
 -- an operation that has begun has its number below that of the next

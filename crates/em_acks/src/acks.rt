@@ -10,7 +10,10 @@ ghost use Rattle.em_acks.specs.Stands.{Stands};
 ghost use Rattle.em_acks.specs.Changes.{begun_by, ended_by, acked_by, left_at};
 
 use crate::job::{Job, Left, Phase, Target};
-use crate::unfinished::{Owing, Unfinished, left_by, place_of, set_owing};
+use crate::owed::{mark, none_owed};
+use crate::pending::PendingOperations;
+use crate::sets::OperationSet;
+use crate::unfinished::{Owing, Unfinished, is_owed, left_by, with_owing};
 use em_log::{Config, CoreId, Fault, MAX_OPERATIONS, NoMemory, OpId};
 use std::alloc::Global;
 use std::marker::Model;
@@ -18,26 +21,29 @@ use std::marker::Model;
 #[cfg(test)]
 mod tests;
 
-/// The operations that have begun: how many, and which of them are not done, in the order of their numbers.
+/// The operations that have begun, each in the place of its number as long as it is not done; and beside them, so that no call
+/// looks through them, the operations to which each core owes a step, and the one of each target that is not done.
 #[derive(Drop)]
 pub struct Acks {
     cores: u8,
-    begun: u16,
-    unfinished: Vec<Unfinished>,
+    begun: Vec<Option<Unfinished>>,
+    owed: Vec<OperationSet>,
+    pending: PendingOperations,
 }
 
 impl Model for Acks {
-    ghost use Rattle.std.specs.Prelude.{vec_capacity};
+    ghost use Rattle.std.specs.Prelude.{length, vec_capacity};
     ghost use Rattle.em_acks.specs.State.{AckState, state_code};
+    ghost use Rattle.em_acks.specs.Slots.{unfinished_in};
     ghost use Rattle.em_acks.specs.Whole.{IsWhole};
 
     ghost Value = { AckState };
 
     ghost coded = { state_code };
 
-    ghost view = { λ a. record { cores = a.cores; begun = a.begun; unfinished = a.unfinished.items } };
+    ghost view = { λ a. record { cores = a.cores; begun = length a.begun.items; unfinished = unfinished_in a.begun.items } };
 
-    ghost invariant = { λ a. IsWhole a.cores a.begun a.unfinished.items (vec_capacity a.unfinished) };
+    ghost invariant = { λ a. IsWhole a.cores a.begun.items a.owed.items a.pending (vec_capacity a.begun) };
 }
 
 impl Acks {
@@ -47,14 +53,15 @@ impl Acks {
         ensures shape { IfOk result (λ a. core_count a ≡ config.now.cores) }
         ensures stands { IfOk result (λ a. Stands a []) }
     {
-        let mut unfinished = Vec::new(alloc);
-        if unfinished.reserve(usize::from(MAX_OPERATIONS)).is_err() {
+        let mut begun = Vec::new(alloc);
+        if begun.reserve(usize::from(MAX_OPERATIONS)).is_err() {
             return Err(NoMemory);
         }
         Ok(Acks {
             cores: config.cores,
-            begun: 0,
-            unfinished,
+            begun,
+            owed: none_owed(alloc, config.cores)?,
+            pending: PendingOperations::build(alloc)?,
         })
     }
 
@@ -119,12 +126,7 @@ impl Acks {
     fn first_of(&self, target: Target) -> Option<OpId>
         ensures { result ≡ first_at target self.now.unfinished }
     {
-        for operation in self.unfinished.as_slice() {
-            if operation.target.is(target) {
-                return Some(operation.op);
-            }
-        }
-        None
+        self.pending.of(target)
     }
 
     /// Refuses where an operation of this target is not done, and then where as many have begun as may in a run.
@@ -134,38 +136,56 @@ impl Acks {
         if let Some(op) = self.first_of(target) {
             return Err(Fault::OpPending(op));
         }
-        if self.begun >= MAX_OPERATIONS {
+        if self.begun.len() >= usize::from(MAX_OPERATIONS) {
             return Err(Fault::OpsSpent(MAX_OPERATIONS));
         }
         Ok(())
     }
 
+    /// The step that the core owes to this operation.
+    fn owed_to(&self, core: CoreId, op: OpId) -> Option<Phase>
+        ensures { result ≡ owed_at self.now core.0 op.0 }
+    {
+        match self.begun.get(usize::from(op.0)) {
+            Some(slot) => match slot {
+                Some(operation) => operation.owing.owed(core),
+                None => None,
+            },
+            None => None,
+        }
+    }
+
     /// The step that the core owes to the first operation to which it owes one.
     fn first_owed(&self, core: CoreId) -> Option<(OpId, Phase)>
+        requires { core.0 < core_count self.now }
         ensures { result ≡ first_owed_in core.0 self.now.unfinished }
     {
-        for operation in self.unfinished.as_slice() {
-            if let Some(phase) = operation.owing.owed(core) {
-                return Some((operation.op, phase));
-            }
+        match self.owed[usize::from(core.0)].first() {
+            Some(op) => match self.owed_to(core, op) {
+                Some(phase) => Some((op, phase)),
+                None => None,
+            },
+            None => None,
         }
-        None
     }
 
     /// Adds the next operation at the end.
     fn open(&mut self, core: CoreId, job: Job, target: Target) -> OpId
-        requires { self.old.begun < operation_limit }
+        requires core { core.0 < core_count self.old }
+        requires free { refusal_at self.old target ≡ None }
         ensures value { self.new ≡ begun_by self.old core.0 job target }
         ensures number { result.0 ≡ self.old.begun }
     {
-        let op = OpId(self.begun);
-        self.unfinished.push_reserved(Unfinished {
+        let op = OpId(self.begun.len() as u16);
+        let operation = Some(Unfinished {
             op,
             job,
             target,
             owing: Owing::at_first(job, core, self.cores),
         });
-        self.begun += 1;
+        mark(&mut self.owed, op, &operation);
+        self.pending.put(target, Some(op));
+        self.begun.push_reserved(operation);
         op
     }
 
@@ -174,22 +194,36 @@ impl Acks {
         requires { IsSome (find_op op.0 self.old.unfinished) }
         ensures { self.new ≡ ended_by self.old op.0 ok }
     {
-        let place = place_of(self.unfinished.as_slice(), op);
-        let next = self.unfinished[place].ended(self.cores, ok);
-        set_owing(&mut self.unfinished, place, next);
+        let place = usize::from(op.0);
+        let Some(operation) = self.begun[place].take() else {
+            unreachable!()
+        };
+        let target = operation.target;
+        let next = operation.ended(self.cores, ok);
+        let after = with_owing(operation, next);
+        mark(&mut self.owed, op, &after);
+        self.pending.release(target, &after);
+        self.begun[place] = after;
     }
 
     /// Ends the local step of this operation for one core.
     fn acknowledge(&mut self, core: CoreId, op: OpId) -> Left
         requires core { core.0 < core_count self.old }
-        requires there { IsSome (find_op op.0 self.old.unfinished) }
+        requires owed { owed_at self.old core.0 op.0 ≡ Some Phase.Local }
         ensures value { self.new ≡ acked_by self.old core.0 op.0 }
         ensures left { result ≡ left_at self.old core.0 op.0 }
     {
-        let place = place_of(self.unfinished.as_slice(), op);
-        let next = self.unfinished[place].acked(core);
+        let place = usize::from(op.0);
+        let Some(operation) = self.begun[place].take() else {
+            unreachable!()
+        };
+        let target = operation.target;
+        let next = operation.acked(core);
         let left = left_by(&next);
-        set_owing(&mut self.unfinished, place, next);
+        let after = with_owing(operation, next);
+        self.owed[usize::from(core.0)].put(op, is_owed(&after, core));
+        self.pending.release(target, &after);
+        self.begun[place] = after;
         left
     }
 }

@@ -4,9 +4,12 @@
 #![tactic(auto)]
 
 pub mod acks;
-pub mod cores;
 pub mod job;
+pub mod owed;
+pub mod pending;
+pub mod sets;
 pub mod unfinished;
+pub mod words;
 
 pub use acks::Acks;
 pub use job::{Job, Left, Phase, Target};

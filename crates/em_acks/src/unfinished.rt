@@ -1,17 +1,18 @@
 //! Operations that are not done, and what is still owed to them.
-ghost use Rattle.std.specs.Prelude.{◌≡◌, ◌<◌, ◌≤◌, length, vec_capacity, IsSome};
-ghost use Rattle.em_acks.specs.State.{owed_in, find_op};
-ghost use Rattle.em_acks.specs.Changes.{owing_after_all, owing_at_first, owing_acked, owing_ended, owing_set, left_in, IsPlaceOf};
+ghost use Rattle.std.specs.Prelude.{◌≡◌, ◌<◌, ◌≤◌};
+ghost use Rattle.em_acks.specs.State.{owed_in};
+ghost use Rattle.em_acks.specs.Sets.{owes, owes_in};
+ghost use Rattle.em_acks.specs.Changes.{owing_after_all, owing_at_first, owing_acked, owing_ended, left_in, next_of};
 
-use crate::cores::{CoreSet, WORD_BITS};
 use crate::job::{Job, Left, Phase, Target};
+use crate::words::{WORD_BITS, WordSet};
 use em_log::{CoreId, OpId};
 
 /// Who owes the next step of an operation: one core the global one, or these cores the local one.
 #[derive(Drop)]
 pub enum Owing {
     Global(CoreId),
-    Local(CoreSet),
+    Local(WordSet),
 }
 
 /// An operation that has begun and is not done.
@@ -31,7 +32,17 @@ impl Owing {
     {
         match job {
             Job::Start => Owing::Global(core),
-            Job::Stop | Job::Modify => Owing::Local(CoreSet::first(cores)),
+            Job::Stop | Job::Modify => Owing::Local(WordSet::first(cores)),
+        }
+    }
+
+    /// Whether the core owes the next step.
+    pub fn is_owed(&self, core: CoreId) -> bool
+        ensures { result ≡ owes_in core.0 self.now }
+    {
+        match self {
+            Owing::Global(owes) => owes.0 == core.0,
+            Owing::Local(cores) => cores.has(core.0),
         }
     }
 
@@ -48,7 +59,7 @@ impl Owing {
                 }
             }
             Owing::Local(cores) => {
-                if cores.has(core) {
+                if cores.has(core.0) {
                     Some(Phase::Local)
                 } else {
                     None
@@ -67,7 +78,7 @@ impl Unfinished {
         match &self.owing {
             Owing::Global(_) => None,
             Owing::Local(cores) => {
-                let left = cores.without(core);
+                let left = cores.without(core.0);
                 if left.len() > 0 {
                     Some(Owing::Local(left))
                 } else {
@@ -95,7 +106,7 @@ impl Unfinished {
         match self.job {
             Job::Start => {
                 if ok {
-                    Some(Owing::Local(CoreSet::first(cores)))
+                    Some(Owing::Local(WordSet::first(cores)))
                 } else {
                     None
                 }
@@ -115,30 +126,27 @@ pub fn left_by(owing: &Option<Owing>) -> Left
     }
 }
 
-/// The place of the operation of this number.
-pub fn place_of(unfinished: &[Unfinished], op: OpId) -> usize
-    requires { IsSome (find_op op.0 unfinished.now) }
-    ensures { IsPlaceOf unfinished.now op.0 result }
+/// Whether the core owes a step to the operation, if it is not done.
+pub fn is_owed(operation: &Option<Unfinished>, core: CoreId) -> bool
+    ensures { result ≡ owes core.0 operation.now }
 {
-    for (place, operation) in unfinished.iter().enumerate() {
-        if operation.op.0 == op.0 {
-            return place;
-        }
+    match operation {
+        Some(operation) => operation.owing.is_owed(core),
+        None => false,
     }
-    unreachable!()
 }
 
-/// Writes down what is owed to the operation at this place, or drops it where it is done.
-pub fn set_owing(unfinished: &mut Vec<Unfinished>, place: usize, owing: Option<Owing>)
-    requires { place < length unfinished.old.items }
-    ensures items { unfinished.new.items ≡ owing_set place owing unfinished.old.items }
-    ensures no_more { length unfinished.new.items ≤ length unfinished.old.items }
-    ensures capacity { vec_capacity unfinished.new ≡ vec_capacity unfinished.old }
+/// The operation with what is owed to it next; none where it is done.
+pub fn with_owing(operation: Unfinished, owing: Option<Owing>) -> Option<Unfinished>
+    ensures { result ≡ next_of owing operation }
 {
     match owing {
-        Some(owing) => unfinished[place].owing = owing,
-        None => {
-            unfinished.remove(place);
-        }
+        Some(owing) => Some(Unfinished {
+            op: operation.op,
+            job: operation.job,
+            target: operation.target,
+            owing,
+        }),
+        None => None,
     }
 }

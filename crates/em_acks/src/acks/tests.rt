@@ -1,6 +1,6 @@
 ghost use Rattle.std.specs.Prelude.{◌≡◌, ◌<◌, ◌≤◌};
 ghost use Rattle.em_log.specs.Bounds.{core_limit};
-ghost use Rattle.em_acks.specs.State.{core_count, owed_at};
+ghost use Rattle.em_acks.specs.State.{core_count};
 
 use super::Acks;
 use crate::job::{Job, Left, Phase, Target};
@@ -39,18 +39,6 @@ enum Call {
     Ack(u8, u16, Left),
 }
 
-/// The step that the core owes to this operation.
-fn step_of(acks: &Acks, core: CoreId, op: OpId) -> Option<Phase>
-    ensures { result ≡ owed_at acks.now core.0 op.0 }
-{
-    for operation in acks.unfinished.as_slice() {
-        if operation.op.0 == op.0 {
-            return operation.owing.owed(core);
-        }
-    }
-    None
-}
-
 fn begins(
     rt: &impl Abort,
     acks: &mut Acks,
@@ -75,7 +63,7 @@ fn ends(rt: &impl Abort, acks: &mut Acks, core: CoreId, op: OpId, ok: bool)
     requires { core.0 < core_count acks.old }
     ensures { core_count acks.new ≡ core_count acks.old }
 {
-    match step_of(acks, core, op) {
+    match acks.owed_to(core, op) {
         Some(Phase::Global) => acks.global(core, op, ok),
         _ => assert!(rt; false),
     }
@@ -85,7 +73,7 @@ fn acknowledges(rt: &impl Abort, acks: &mut Acks, core: CoreId, op: OpId, left: 
     requires { core.0 < core_count acks.old }
     ensures { core_count acks.new ≡ core_count acks.old }
 {
-    match step_of(acks, core, op) {
+    match acks.owed_to(core, op) {
         Some(Phase::Local) => assert_eq!(rt; acks.ack(core, op), left),
         _ => assert!(rt; false),
     }
