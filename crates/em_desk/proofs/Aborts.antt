@@ -1,5 +1,5 @@
 -- Asks that give up an application of an event group.
-use Rattle.std.proofs.Common.{◌≡◌, ℕ, ◌∷◌, List, Bool, true, false, Option, Some, None, refl, sym, ◌∙◌, arith, if◌then◌else◌}
+use Rattle.std.proofs.Common.{◌≡◌, ℕ, [], ◌∷◌, List, Bool, true, false, Option, Some, None, refl, sym, ◌∙◌, arith, if◌then◌else◌}
 use Rattle.em_log.specs.declared.ask.Ask.{Ask}
 use Rattle.em_log.specs.declared.declarations.Declarations.{Declarations}
 use Rattle.em_log.specs.declared.entry.What.{What}
@@ -26,7 +26,7 @@ use Rattle.em_desk.proofs.Begun.{pushed, IsCause, IsAsked, asked-begun, settled-
 use Rattle.em_desk.proofs.FreedNotes.{freed-pools, freed-queues, freed-said, freed-ready}
 use Rattle.em_desk.proofs.GroupAsks.{group-refusals}
 use Rattle.em_desk.proofs.OrdersKept.{orders-kept}
-use Rattle.em_desk.proofs.Performed.{core-tail}
+use Rattle.em_desk.proofs.Told.{core-tail}
 
 abbrev pub abort_of : EventGroupId → What
 abort_of g = What.Abort g
@@ -71,8 +71,8 @@ abort-stands p q c g s may ok groups =
     let events = s.fixed.graph.events in
     let small : HasSmallIndices p.declarations = omega (arith, events) in
     let on : busy p.history.past g.0 ≡ true = busy-by (busy p.history.past g.0) g ok in
-    asked-begun p (record q { pools = p.pools; queues = p.queues; atomics = p.atomics; orders = p.orders; kept = p.kept }) c (Ask.Abort g) (abort_of g) (freed_acts (applied_notes p.history.past g.0)) 0 s
-    (abort-asked p c g may ok) refl (abort-cause p.declarations p.history.past c g) (core-tail p.declarations c (freed_acts (applied_notes p.history.past g.0)) may.core)
+    asked-begun p (record q { pools = p.pools; queues = p.queues; atomics = p.atomics; orders = p.orders; kept = p.kept }) c (Ask.Abort g) (abort_of g) (freed_acts (applied_notes p.history.past g.0)) [] 0 s
+    (abort-asked p c g may ok) refl (abort-cause p.declarations p.history.past c g) (core-tail p.declarations c (freed_acts (applied_notes p.history.past g.0)) [] may.core)
     (settled-pools p 0 s) refl (omega arith) (settled-queues p 0 s) refl s.atomics groups
     (orders-kept p.declarations p.orders p.history.past c (abort_of g) 0 refl s.orders)
     (freed-ready p.declarations p.limits p.history.past _ (applied_notes p.history.past g.0) small s.all

@@ -74,7 +74,7 @@ pub settled-with : (p q : Parts) (c : ℕ) (a : Ask) (w : What) → Stands p →
     → Stands (record p { history = pushed p c w; pools = q.pools; queues = q.queues; atomics = q.atomics; kept = q.kept })
 settled-with p q c a w s e served cause stands shapes spare lists same contexts no_group no_order kept =
     at-rest (record p { history = pushed p c w; pools = q.pools; queues = q.queues; atomics = q.atomics; kept = q.kept }) c
-    (asked-begun p (record q { groups = p.groups; orders = p.orders }) c a w [] 0 s e served cause tt stands shapes spare lists same contexts
+    (asked-begun p (record q { groups = p.groups; orders = p.orders }) c a w [] [] 0 s e served cause tt stands shapes spare lists same contexts
     (groups-kept p.declarations p.groups p.history.past c w no_group s.groups) (orders-kept p.declarations p.orders p.history.past c w 0 no_order s.orders) tt kept)
 
 -- an entry that takes nothing out of a queue, and leaves the atomic contexts, the event groups and the tickets

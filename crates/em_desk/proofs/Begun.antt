@@ -34,12 +34,12 @@ use Rattle.em_context_parts.specs.AtomicAlike.{AtomicsAlike}
 use Rattle.em_context_parts.proofs.AtomicCells.{atomics-alike}
 use Rattle.em_desk.specs.Atomics.{AtomicsStand}
 use Rattle.em_desk.specs.Groups.{GroupsStand}
-use Rattle.em_desk.specs.Acts.{said, pool_acts, queue_acts, AreReady}
+use Rattle.em_desk.specs.Acts.{said, said_then, pool_acts, queue_acts, AreReady}
 use Rattle.em_desk.specs.Openings.{opening_at, opening_of}
 use Rattle.em_bounds.specs.Room.{needed, lefts}
 use Rattle.em_bounds.specs.Bound.{IsAfforded}
 use Rattle.em_desk.specs.Orders.{OrdersStand}
-use Rattle.em_desk.specs.Standing.{Releasing, Standing, Stands, IsCore, AreKept}
+use Rattle.em_desk.specs.Standing.{Ending, Standing, Stands, IsCore, AreKept}
 use Rattle.em_bounds.proofs.Room.{needed-lead}
 use Rattle.em_desk.proofs.Contexts.{opening-stays}
 
@@ -51,11 +51,14 @@ pushed p c w = record p.history { past = entry_by c w ∷ p.history.past }
 abbrev pub in_run : Parts → Parts → Parts
 in_run p q = record q { declarations = p.declarations; limits = p.limits; allowed = p.allowed }
 
--- what this entry leaves to do in its ask, once what it mints and spends is done
-pub record IsCause (k : Declarations) (past : Past) (c : ℕ) (w : What) (acts : List Act) : Type 0 where
+-- what this entry leaves to do and to tell in its ask, once what it mints and spends is done
+pub record Causes (k : Declarations) (past : Past) (c : ℕ) (w : What) (acts : List Act) (rest : List What) : Type 0 where
   pub pools : (s : List PoolStep) → pool_after k past c w s ≡ pool_acts acts (direct k past c w s)
   pub queues : (t : List QueueStep) → arrived_steps k past (entering k past (entry_by c w)) t ≡ queue_acts acts t
-  pub tail : tail_of k past (entry_by c w ∷ past) c w ≡ said acts
+  pub tail : tail_of k past (entry_by c w ∷ past) c w ≡ said_then acts rest
+
+abbrev pub IsCause : Declarations → Past → ℕ → What → List Act → Type 0
+IsCause k past c w acts = Causes k past c w acts []
 
 -- the parts stand for what the entry mints, spends, takes and starts, and there is room for what it may cause
 pub record IsMade (p q : Parts) (c : ℕ) (w : What) (acts : List Act) (n : ℕ) : Type 0 where
@@ -82,10 +85,10 @@ pub all-with : (p : Parts) (b c : ℕ) (w : What) → Standing p b [] → c < p.
 all-with p b c w s lt begins =
     (record { core = lt; next = subst (λ ds. IsNext p.declarations p.limits p.history.past ds (entry_by c w)) (sym s.due) begins }, s.all)
 
-pub begun : (p q : Parts) (b c : ℕ) (w : What) (acts : List Act) (n : ℕ) → Standing p b [] → c < p.declarations.cores
-    → Begins p.declarations p.limits p.history.past c w → IsTrue (is_served_entry p.declarations w) → IsCause p.declarations p.history.past c w acts
-    → IsCore p.declarations c acts → IsMade p q c w acts n → Releasing (record (in_run p q) { history = pushed p c w }) c acts n
-begun p q b c w acts n s lt begins served cause core m =
+pub begun : (p q : Parts) (b c : ℕ) (w : What) (acts : List Act) (rest : List What) (n : ℕ) → Standing p b [] → c < p.declarations.cores
+    → Begins p.declarations p.limits p.history.past c w → IsTrue (is_served_entry p.declarations w) → Causes p.declarations p.history.past c w acts rest
+    → IsCore p.declarations c acts rest → IsMade p q c w acts n → Ending (record (in_run p q) { history = pushed p c w }) c acts rest n
+begun p q b c w acts rest n s lt begins served cause core m =
     record {
       fixed = record { graph = s.fixed.graph; limits = s.fixed.limits; cores = s.fixed.cores; allowed = s.fixed.allowed };
       all = all-with p b c w s lt begins;
@@ -203,8 +206,8 @@ asked-room p c a w s e =
     has-room-by p c w (all-with p 0 c w s e.core (Asks a e.may e.gives)) (let less = asked-needed p c a w s e in let r = s.room in omega (arith, less, r))
 
 -- where there was room for mintings, there is where the entry mints no more than it pays
-pub asked-begun : (p q : Parts) (c : ℕ) (a : Ask) (w : What) (acts : List Act) (n : ℕ) → Stands p → IsAsked p c a w → IsTrue (is_served_entry p.declarations w)
-    → IsCause p.declarations p.history.past c w acts → IsCore p.declarations c acts
+pub asked-begun : (p q : Parts) (c : ℕ) (a : Ask) (w : What) (acts : List Act) (rest : List What) (n : ℕ) → Stands p → IsAsked p c a w → IsTrue (is_served_entry p.declarations w)
+    → Causes p.declarations p.history.past c w acts rest → IsCore p.declarations c acts rest
     → pools.Stands q.pools (direct p.declarations p.history.past c w (pool_steps p.declarations p.history.past)) → q.pools.pools ≡ p.pools.pools
     → p.pools.spare ≤ q.pools.spare + pays w
     → queues.Stands p.declarations q.queues (served_steps c w (queue_steps p.declarations p.history.past)) → shape q.queues ≡ shape p.queues
@@ -213,9 +216,9 @@ pub asked-begun : (p q : Parts) (c : ℕ) (a : Ask) (w : What) (acts : List Act)
     → OrdersStand p.declarations q.orders (entry_by c w ∷ p.history.past) n
     → AreReady p.declarations (direct p.declarations p.history.past c w (pool_steps p.declarations p.history.past)) (served_steps c w (queue_steps p.declarations p.history.past)) acts
     → AreKept p.declarations (entry_by c w ∷ p.history.past) q.kept
-    → Releasing (record p { history = pushed p c w; pools = q.pools; queues = q.queues; atomics = q.atomics; groups = q.groups; orders = q.orders; kept = q.kept }) c acts n
-asked-begun p q c a w acts n s e served cause core stands shapes spare lists same contexts groups orders ready kept =
-    begun p (record p { pools = q.pools; queues = q.queues; atomics = q.atomics; groups = q.groups; orders = q.orders; kept = q.kept }) 0 c w acts n s e.core (Asks a e.may e.gives) served cause core
+    → Ending (record p { history = pushed p c w; pools = q.pools; queues = q.queues; atomics = q.atomics; groups = q.groups; orders = q.orders; kept = q.kept }) c acts rest n
+asked-begun p q c a w acts rest n s e served cause core stands shapes spare lists same contexts groups orders ready kept =
+    begun p (record p { pools = q.pools; queues = q.queues; atomics = q.atomics; groups = q.groups; orders = q.orders; kept = q.kept }) 0 c w acts rest n s e.core (Asks a e.may e.gives) served cause core
     (record {
       pools = stands;
       pool_shape = shapes;
@@ -241,12 +244,17 @@ asked-begun p q c a w acts n s e served cause core stands shapes spare lists sam
 
 -- blocks
 
-tail-is : (k : Declarations) (past : Past) (c : ℕ) (w : What) (acts : List Act) → IsCause k past c w acts → tail k past (entry_by c w) ≡ entries_by c (said acts)
-tail-is k past c w acts cause = ap (entries_by c) cause.tail
+tail-is : (k : Declarations) (past : Past) (c : ℕ) (w : What) (acts : List Act) (rest : List What) → Causes k past c w acts rest
+    → tail k past (entry_by c w) ≡ entries_by c (said_then acts rest)
+tail-is k past c w acts rest cause = ap (entries_by c) cause.tail
 
 pub block-none : (k : Declarations) (past : Past) (c : ℕ) (w : What) → IsCause k past c w [] → entry_by c w ∷ past ≡ block k past (entry_by c w)
-block-none k past c w cause = sym (ap (λ ds. onto ds (entry_by c w ∷ past)) (tail-is k past c w [] cause))
+block-none k past c w cause = sym (ap (λ ds. onto ds (entry_by c w ∷ past)) (tail-is k past c w [] [] cause))
+
+pub block-ending : (k : Declarations) (past : Past) (c : ℕ) (w : What) (acts : List Act) (rest : List What) → Causes k past c w acts rest
+    → onto (entries_by c (said_then acts rest)) (entry_by c w ∷ past) ≡ block k past (entry_by c w)
+block-ending k past c w acts rest cause = sym (ap (λ ds. onto ds (entry_by c w ∷ past)) (tail-is k past c w acts rest cause))
 
 pub block-acts : (k : Declarations) (past : Past) (c : ℕ) (w : What) (acts : List Act) → IsCause k past c w acts
     → onto (entries_by c (said acts)) (entry_by c w ∷ past) ≡ block k past (entry_by c w)
-block-acts k past c w acts cause = sym (ap (λ ds. onto ds (entry_by c w ∷ past)) (tail-is k past c w acts cause))
+block-acts k past c w acts cause = block-ending k past c w acts [] cause

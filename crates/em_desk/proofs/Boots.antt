@@ -58,7 +58,7 @@ pub boot-stands : (p q : Parts) → Stands p → p.history.past ≡ [] → paid 
     → q.contexts.items ≡ slice_set p.contexts.items 0 Opening.Boot → Stands (record p { history = pushed p 0 boot; contexts = q.contexts })
 boot-stands p q s none room spare opens =
     at-rest (record p { history = pushed p 0 boot; contexts = q.contexts }) 0
-    (begun p (record p { contexts = q.contexts }) 0 0 boot [] 0 s (boot-core p s) (Boots none refl refl) refl (boot-cause p.declarations p.history.past) tt
+    (begun p (record p { contexts = q.contexts }) 0 0 boot [] [] 0 s (boot-core p s) (Boots none refl refl) refl (boot-cause p.declarations p.history.past) tt
     (record {
       pools = settled-pools p 0 s;
       pool_shape = refl;

@@ -1,5 +1,5 @@
 -- An early end of ordered processing.
-use Rattle.std.proofs.Common.{◌≡◌, ℕ, Bool, true, false, ◌∷◌, List, map, Option, Some, None, is_none, refl, ap, sym, ◌∙◌, subst, arith, if◌then◌else◌}
+use Rattle.std.proofs.Common.{◌≡◌, ℕ, Bool, true, false, [], ◌∷◌, List, map, Option, Some, None, is_none, refl, ap, sym, ◌∙◌, subst, arith, if◌then◌else◌}
 use Rattle.std.specs.Option.{option_map}
 use Rattle.em_log.specs.declared.ask.Ask.{Ask}
 use Rattle.em_log.specs.declared.entry.What.{What}
@@ -25,7 +25,8 @@ use Rattle.em_desk.specs.State.{MayAsk}
 use Rattle.em_desk.proofs.Asked.{steps_of, own-lead, kept-same}
 use Rattle.em_desk.proofs.GroupsKept.{groups-kept}
 use Rattle.em_desk.proofs.Begun.{pushed, IsCause, IsAsked, asked-begun, all-with, settled-pools, settled-queues}
-use Rattle.em_desk.proofs.Ends.{let_in_by, ending_acts, acts-core, IsEnded, EndsTicket}
+use Rattle.em_desk.proofs.Told.{core-tail}
+use Rattle.em_desk.proofs.Ends.{let_in_by, ending_acts, IsEnded, EndsTicket}
 use Rattle.em_desk.proofs.OpenTickets.{settled-orders, alike}
 use Rattle.em_desk.proofs.Releases.{IsHeld, all-held, let-in-once, releases-moved, releases-arrived, releases-said, releases-known, releases-ready}
 
@@ -78,11 +79,11 @@ pub ends-early : (p : Parts) (c : ℕ) → Stands p → EndsTicket p c What.EndO
 ends-early p c s = record { steps = λ t. refl; lets_in = (alike p s).ended_early c }
 
 pub ordered-stands : (p q : Parts) (c : ℕ) → Stands p → MayAsk p.declarations p.history.past c Ask.EndOrdered → refusal p.declarations p.history.past c Ask.EndOrdered ≡ None
-    → IsEnded p q.orders c What.EndOrdered → IsReleasing (record p { history = pushed p c What.EndOrdered; orders = q.orders }) c (ending_acts p c What.EndOrdered)
+    → IsEnded p q.orders c What.EndOrdered → IsReleasing (record p { history = pushed p c What.EndOrdered; orders = q.orders }) c (ending_acts p c What.EndOrdered) []
 ordered-stands p q c s may ok ended =
     record {
-      standing = asked-begun p (record p { orders = q.orders }) c Ask.EndOrdered What.EndOrdered (ending_acts p c What.EndOrdered) _ s (ordered-asked p c may ok) refl
-          (ordered-cause p c s) (acts-core p.declarations c (ending_acts p c What.EndOrdered) may.core) (settled-pools p 0 s) refl (omega arith) (settled-queues p 0 s) refl s.atomics
+      standing = asked-begun p (record p { orders = q.orders }) c Ask.EndOrdered What.EndOrdered (ending_acts p c What.EndOrdered) [] _ s (ordered-asked p c may ok) refl
+          (ordered-cause p c s) (core-tail p.declarations c (ending_acts p c What.EndOrdered) [] may.core) (settled-pools p 0 s) refl (omega arith) (settled-queues p 0 s) refl s.atomics
           (groups-kept p.declarations p.groups p.history.past c What.EndOrdered refl s.groups) ended.orders
           (releases-ready p (steps_of p) (let_in_by p c What.EndOrdered) s (λ i r there. there) held (λ h. let-in-once p c What.EndOrdered (open_ticket p.history.past c) h s moment))
           (kept-same p.declarations p.history.past (entry_by c What.EndOrdered ∷ p.history.past) p.kept (λ x. refl) s.kept);

@@ -47,13 +47,14 @@ use Rattle.em_desk.specs.Openings.{opening_at, opening_of}
 use Rattle.em_bounds.specs.Room.{needed}
 use Rattle.em_desk.specs.Acts.{AreReleases}
 use Rattle.em_desk.specs.Orders.{OrdersStand}
-use Rattle.em_desk.specs.Standing.{Stands, IsCore, IsReleasing}
+use Rattle.em_desk.specs.Standing.{Stands, IsReleasing}
 use Rattle.em_desk.specs.State.{MayAsk}
 use Rattle.em_desk.proofs.Asked.{steps_of, kept-same}
 use Rattle.em_desk.proofs.Begun.{pushed, IsCause, begun, untaken, atomics, all-with, HasRoom, has-room-by, settled-pools, settled-queues}
 use Rattle.em_desk.proofs.Contexts.{opening-other}
 use Rattle.em_bounds.proofs.Room.{needed-end}
 use Rattle.em_desk.proofs.OpenStamps.{no-open-stamp}
+use Rattle.em_desk.proofs.Told.{core-tail}
 use Rattle.em_desk.proofs.Beginnings.{boot-or-receive}
 use Rattle.em_desk.proofs.OpenTickets.{settled-orders, alike}
 use Rattle.em_desk.proofs.Releases.{IsHeld, all-held, let-in-once, release_acts, releases-moved, releases-arrived, releases-said, releases-known, releases-ready}
@@ -134,10 +135,6 @@ end-room p c lost cells s may count =
     has-room-by p c (What.End lost cells) (all-with p 0 c (What.End lost cells) s may.core (Asks (Ask.End cells) may.may (end-gives p c lost cells count)))
     (let less = end-needed p c lost cells may.core in let r = s.room in omega (arith, less, r))
 
-pub acts-core : (k : Declarations) (c : ℕ) (acts : List Act) → c < k.cores → IsCore k c acts
-acts-core k c [] lt = tt
-acts-core k c (a ∷ acts) lt = lt
-
 -- the open ticket has ended
 
 pub record IsEnded (p : Parts) (v : OrderState) (c : ℕ) (w : What) : Type 0 where
@@ -204,11 +201,11 @@ pub end-stands : (p q : Parts) (c lost : ℕ) (cells : Option Cells) → Stands 
     → pools.Stands q.pools (Lost c (length p.history.past) ∷ steps_of p) → q.pools.pools ≡ p.pools.pools → q.pools.spare ≡ p.pools.spare
     → AtomicsStand p.declarations q.atomics (ended_steps true cells c (atomic_steps p.declarations p.history.past))
     → q.contexts.items ≡ slice_set p.contexts.items c Opening.Closed → IsEnded p q.orders c (end_of_context lost cells)
-    → IsReleasing (record p { history = pushed p c (end_of_context lost cells); pools = q.pools; atomics = q.atomics; orders = q.orders; contexts = q.contexts }) c (ending_acts p c (end_of_context lost cells))
+    → IsReleasing (record p { history = pushed p c (end_of_context lost cells); pools = q.pools; atomics = q.atomics; orders = q.orders; contexts = q.contexts }) c (ending_acts p c (end_of_context lost cells)) []
 end-stands p q c lost cells s may count stands shapes spare given opens ended =
     record {
-      standing = begun p (record p { pools = q.pools; atomics = q.atomics; orders = q.orders; contexts = q.contexts }) 0 c (What.End lost cells) acts (length q.orders.due) s may.core
-          (Asks (Ask.End cells) may.may (end-gives p c lost cells count)) refl (end-cause p c lost cells s may) (acts-core p.declarations c acts may.core)
+      standing = begun p (record p { pools = q.pools; atomics = q.atomics; orders = q.orders; contexts = q.contexts }) 0 c (What.End lost cells) acts [] (length q.orders.due) s may.core
+          (Asks (Ask.End cells) may.may (end-gives p c lost cells count)) refl (end-cause p c lost cells s may) (core-tail p.declarations c acts [] may.core)
           (record {
             pools = stands;
             pool_shape = shapes;

@@ -54,10 +54,10 @@ note-at (n ∷ ns) i h = by_test (index_of n.word == i) refl h (note-at ns i)
     by_test true own h later = record { word = n.word; among = rw (eq-eqb n.word n.word refl) refl; index = eqb-eq (index_of n.word) i own }
     by_test false own h later = let t = later h in record { word = t.word; among = or_right (n.word == t.word) (has (note_words ns) t.word) t.among; index = t.index }
 
-abbrev OnceEach : List Note → Type 0
+abbrev pub OnceEach : List Note → Type 0
 OnceEach ns = (h : ℕ) → occ h (note_words ns) ≤ 1
 
-once-rest : (n : Note) (ns : List Note) → OnceEach (n ∷ ns) → OnceEach ns
+pub once-rest : (n : Note) (ns : List Note) → OnceEach (n ∷ ns) → OnceEach ns
 once-rest n ns once h = by_test (n.word == h) (once h)
   where
     by_test : (b : Bool) → (if b then suc (occ h (note_words ns)) else occ h (note_words ns)) ≤ 1 → occ h (note_words ns) ≤ 1
@@ -75,19 +75,12 @@ pub note-below : (k : Declarations) (l : Limits) (past : Past) (h : ℕ) (p : Pl
 note-below k l past h p small all sits =
     let m = last-minted past (index_of h) h sits.last in minted-below k l past small all h m.1.0 m.1.1
 
-pub freed-ready : (k : Declarations) (l : Limits) (past : Past) (t : List QueueStep) (ns : List Note) → HasSmallIndices k → AllAllowed k l past → AllNoted k past ns → OnceEach ns
-    → AreReady k (pool_steps k past) t (freed_acts ns)
-freed-ready k l past t [] small all noted once = tt
-freed-ready k l past t (n ∷ ns) small all noted once = (
-  record { moves = (note-below k l past n.word Place.Noted small all own, (can, refl)); enters = tt; says = tt },
-  (apart (has (map act_index (freed_acts ns)) (index_of n.word)) refl, freed-ready k l past t ns small all (λ f there. noted f (or_right (n.word == f) (has (note_words ns) f) there)) (once-rest n ns once)),
-)
+-- no two of them are of one event
+pub freed-apart : (k : Declarations) (past : Past) (n : Note) (ns : List Note) → AllNoted k past (n ∷ ns) → OnceEach (n ∷ ns) → has (map act_index (freed_acts ns)) (index_of n.word) ≡ false
+freed-apart k past n ns noted once = apart (has (map act_index (freed_acts ns)) (index_of n.word)) refl
   where
     own : Sits k past n.word Place.Noted
     own = noted n.word (rw (eq-eqb n.word n.word refl) refl)
-
-    can : can_shift (spot (pool_steps k past) (index_of n.word)) ≡ true
-    can = ap can_shift own.spot
 
     apart : (b : Bool) → has (map act_index (freed_acts ns)) (index_of n.word) ≡ b → has (map act_index (freed_acts ns)) (index_of n.word) ≡ false
     apart false is = is
@@ -96,3 +89,17 @@ freed-ready k l past t (n ∷ ns) small all noted once = (
         let sits = noted other.word (or_right (n.word == other.word) (has (note_words ns) other.word) other.among) in
         let same : other.word ≡ n.word = same-handle k past n.word other.word Place.Noted Place.Noted own sits other.index in
         absurd (once-first n ns once (subst (λ (w : ℕ). has (note_words ns) w ≡ true) same other.among))
+
+pub freed-ready : (k : Declarations) (l : Limits) (past : Past) (t : List QueueStep) (ns : List Note) → HasSmallIndices k → AllAllowed k l past → AllNoted k past ns → OnceEach ns
+    → AreReady k (pool_steps k past) t (freed_acts ns)
+freed-ready k l past t [] small all noted once = tt
+freed-ready k l past t (n ∷ ns) small all noted once = (
+  record { moves = (note-below k l past n.word Place.Noted small all own, (can, refl)); enters = tt; says = tt },
+  (freed-apart k past n ns noted once, freed-ready k l past t ns small all (λ f there. noted f (or_right (n.word == f) (has (note_words ns) f) there)) (once-rest n ns once)),
+)
+  where
+    own : Sits k past n.word Place.Noted
+    own = noted n.word (rw (eq-eqb n.word n.word refl) refl)
+
+    can : can_shift (spot (pool_steps k past) (index_of n.word)) ≡ true
+    can = ap can_shift own.spot

@@ -131,7 +131,7 @@ pub apply-stands : (p q : Parts) (c a n : ℕ) (g : EventGroupId) (notes : List 
     → Stands (record p { history = pushed p c (apply_of g a n notes); pools = q.pools; groups = q.groups })
 apply-stands p q c a n g notes s e served stands shapes spare groups =
     at-rest (record p { history = pushed p c (apply_of g a n notes); pools = q.pools; groups = q.groups }) c
-    (asked-begun p (record q { queues = p.queues; atomics = p.atomics; orders = p.orders; kept = p.kept }) c (Ask.Apply g n notes) (apply_of g a n notes) [] 0 s e served
+    (asked-begun p (record q { queues = p.queues; atomics = p.atomics; orders = p.orders; kept = p.kept }) c (Ask.Apply g n notes) (apply_of g a n notes) [] [] 0 s e served
     (apply-cause p.declarations p.history.past c a n g notes) tt stands shapes (omega (arith, spare)) (settled-queues p 0 s) refl s.atomics groups
     (orders-kept p.declarations p.orders p.history.past c (apply_of g a n notes) 0 refl s.orders) tt
     (kept-same p.declarations p.history.past (entry_by c (apply_of g a n notes) ∷ p.history.past) p.kept (λ x. refl) s.kept))

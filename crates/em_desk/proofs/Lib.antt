@@ -12,9 +12,11 @@ mod HandedNotes
 mod GroupAsks
 mod FreedNotes
 mod Aborts
+mod CompletedNotes
 mod Performed
 mod Listed
 mod Asked
+mod Told
 mod Distinct
 mod Minting
 mod Allocs

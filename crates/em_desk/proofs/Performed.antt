@@ -2,12 +2,10 @@
 use Rattle.std.proofs.Common.{◌≡◌, ℕ, ◌+◌, ◌<◌, ◌≤◌, ◌==◌, Bool, true, false, ◌||◌, [], ◌∷◌, List, map, Option, Some, None, length, refl, ap, sym, ◌∙◌, subst, arith, IsTrue, IfSome}
 use Rattle.std.proofs.lemmas.Bool.{eq-eqb}
 use Rattle.em_log.specs.declared.declarations.Declarations.{Declarations}
-use Rattle.em_log.specs.declared.entry.Entry.{Entry}
 use Rattle.em_log.specs.declared.entry.What.{What}
 use Rattle.em_log.specs.History.{entry_by, entries_by, has}
 use Rattle.em_log.specs.Declarations.{event_total}
-use Rattle.em_log.specs.Tails.{tail}
-use Rattle.em_log.specs.Lawful.{AllAllowed, IsNext, due, due_after}
+use Rattle.em_log.specs.Lawful.{due}
 use Rattle.em_bounds.specs.Paid.{paid, pays}
 use Rattle.em_laws.proofs.Cores.{eqb-eq}
 use Rattle.em_pool.specs.declared.place.Place.{Place}
@@ -22,13 +20,9 @@ use Rattle.em_queues.specs.Stands as queues
 use Rattle.em_desk.specs.declared.acts.Act.{Act}
 use Rattle.em_desk.specs.declared.acts.Entrance.{Entrance}
 use Rattle.em_desk.specs.declared.parts.Parts.{Parts}
-use Rattle.em_desk.specs.Acts.{said, with_said, past_after, shifted_step, arrived_step, CanMove, CanEnter, MaySay, AreReady, act_index}
-use Rattle.em_desk.specs.Standing.{Releasing, IsCore}
-use Rattle.em_bounds.proofs.Room.{needed-out}
-use Rattle.em_desk.proofs.Contexts.{opening-stays}
-use Rattle.em_desk.proofs.Begun.{has-room-by}
-use Rattle.em_desk.proofs.GroupsKept.{groups-kept}
-use Rattle.em_desk.proofs.OrdersKept.{orders-kept}
+use Rattle.em_desk.specs.Acts.{said_then, with_said, past_after, shifted_step, arrived_step, CanMove, CanEnter, MaySay, AreReady, act_index}
+use Rattle.em_desk.specs.Standing.{Ending}
+use Rattle.em_desk.proofs.Told.{IsTold, core-tail, told-room, told, act-told}
 
 -- what is left can still be done
 
@@ -69,15 +63,11 @@ ready-after k s t i to e (a ∷ acts) apart ready =
       (ready.1.0, ready-after k s t i to e acts parts.1 ready.1.1),
     )
 
-pub core-tail : (k : Declarations) (c : ℕ) (acts : List Act) → c < k.cores → IsCore k c acts
-core-tail k c [] lt = tt
-core-tail k c (a ∷ acts) lt = lt
-
 -- what a call of the parts needs
 
-pub can-shift : (p : Parts) (c : ℕ) (a : Act) (acts : List Act) (n : ℕ) → Releasing p c (a ∷ acts) n
+pub can-shift : (p : Parts) (c : ℕ) (a : Act) (acts : List Act) (rest : List What) (n : ℕ) → Ending p c (a ∷ acts) rest n
     → IfSome a.to (λ t. (a.index < event_total p.pools.pools) × (IsTrue (can_shift (place_at p.pools a.index)) × IsTrue (is_shift_target t)))
-can-shift p c a acts n s = by_place a.to s.ready.0.moves
+can-shift p c a acts rest n s = by_place a.to s.ready.0.moves
   where
     by_place : (o : Option Place) → CanMove p.declarations s.pool a.index o
         → IfSome o (λ t. (a.index < event_total p.pools.pools) × (IsTrue (can_shift (place_at p.pools a.index)) × IsTrue (is_shift_target t)))
@@ -87,9 +77,9 @@ can-shift p c a acts n s = by_place a.to s.ready.0.moves
       (subst (λ (x : Place). IsTrue (can_shift x)) (sym (s.pools.spots a.index)) h.1.0, h.1.1),
     )
 
-pub can-arrive : (p : Parts) (c : ℕ) (a : Act) (acts : List Act) (n : ℕ) → Releasing p c (a ∷ acts) n
+pub can-arrive : (p : Parts) (c : ℕ) (a : Act) (acts : List Act) (rest : List What) (n : ℕ) → Ending p c (a ∷ acts) rest n
     → IfSome a.enters (λ e. (e.queue.0 < (shape p.queues).queues) × ((e.core.0 < (shape p.queues).cores) × (is_listed_at p.queues a.index ≡ false)))
-can-arrive p c a acts n s = by_entrance a.enters s.ready.0.enters
+can-arrive p c a acts rest n s = by_entrance a.enters s.ready.0.enters
   where
     by_entrance : (o : Option Entrance) → CanEnter p.declarations s.queue a.index o
         → IfSome o (λ e. (e.queue.0 < (shape p.queues).queues) × ((e.core.0 < (shape p.queues).cores) × (is_listed_at p.queues a.index ≡ false)))
@@ -103,49 +93,42 @@ can-arrive p c a acts n s = by_entrance a.enters s.ready.0.enters
     )
 
 -- the entry that an act tells is the first that is due
-told-first : (p : Parts) (c : ℕ) (a : Act) (acts : List Act) (n : ℕ) (w : What) → Releasing p c (a ∷ acts) n → a.says ≡ Some w
-    → due p.declarations p.history.past ≡ entry_by c w ∷ entries_by c (said acts)
-told-first p c a acts n w s is = s.due ∙ ap (λ (x : Option What). entries_by c (with_said x (said acts))) is
-
-told-all : (p : Parts) (c : ℕ) (a : Act) (acts : List Act) (n : ℕ) (w : What) → Releasing p c (a ∷ acts) n → a.says ≡ Some w
-    → AllAllowed p.declarations p.limits (entry_by c w ∷ p.history.past)
-told-all p c a acts n w s is =
-    (record { core = s.core; next = subst (λ ds. IsNext p.declarations p.limits p.history.past ds (entry_by c w)) (sym (told-first p c a acts n w s is)) refl }, s.all)
+told-first : (p : Parts) (c : ℕ) (a : Act) (acts : List Act) (rest : List What) (n : ℕ) (w : What) → Ending p c (a ∷ acts) rest n → a.says ≡ Some w
+    → due p.declarations p.history.past ≡ entry_by c w ∷ entries_by c (said_then acts rest)
+told-first p c a acts rest n w s is = s.due ∙ ap (λ (x : Option What). entries_by c (with_said x (said_then acts rest))) is
 
 -- there is room for what an act tells
-pub can-say : (p : Parts) (c : ℕ) (a : Act) (acts : List Act) (n : ℕ) → Releasing p c (a ∷ acts) n
+pub can-say : (p : Parts) (c : ℕ) (a : Act) (acts : List Act) (rest : List What) (n : ℕ) → Ending p c (a ∷ acts) rest n
     → IfSome a.says (λ w. (length p.history.past + 1 ≤ p.history.capacity) × (pays w + paid p.history.past ≤ p.history.capacity))
-can-say p c a acts n s = by_says a.says refl s.ready.0.says
+can-say p c a acts rest n s = by_says a.says refl s.ready.0.says
   where
+    told : (w : What) → IsTold w → a.says ≡ Some w → (length p.history.past + 1 ≤ p.history.capacity) × (pays w + paid p.history.past ≤ p.history.capacity)
+    told w free is = let room = told-room p c w (entries_by c (said_then acts rest)) free s.core s.all s.room (told-first p c a acts rest n w s is) in (room.length, room.paid)
+
     by_says : (o : Option What) → a.says ≡ o → MaySay o
         → IfSome o (λ w. (length p.history.past + 1 ≤ p.history.capacity) × (pays w + paid p.history.past ≤ p.history.capacity))
     by_says None is may = tt
-    by_says (Some (What.Out q kind words)) is may =
-        let same = needed-out p.declarations p.history.past c q kind words (entry_by c (What.Out q kind words)) (entries_by c (said acts)) (told-first p c a acts n _ s is) in
-        let r = s.room in
-        let room = has-room-by p c (What.Out q kind words) (told-all p c a acts n _ s is) (omega (arith, same, r)) in
-        (room.length, room.paid)
-    by_says (Some w) is may = absurd may
+    by_says (Some w) is may = told w (act-told w may).told is
 
 -- the act is done
-pub performed : (p q : Parts) (c : ℕ) (a : Act) (acts : List Act) (n : ℕ) → Releasing p c (a ∷ acts) n
+pub performed : (p q : Parts) (c : ℕ) (a : Act) (acts : List Act) (rest : List What) (n : ℕ) → Ending p c (a ∷ acts) rest n
     → ((s : List PoolStep) → pools.Stands p.pools s → pools.Stands q.pools (shifted_step a.index a.to s)) → q.pools.pools ≡ p.pools.pools → q.pools.spare ≡ p.pools.spare
     → ((k : Declarations) (t : List QueueStep) → queues.Stands k p.queues t → queues.Stands k q.queues (arrived_step a.index a.enters t)) → shape q.queues ≡ shape p.queues
-    → Releasing (record p { history = record p.history { past = past_after c a.says p.history.past }; pools = q.pools; queues = q.queues }) c acts n
-performed p q c a acts n s pool_stands shapes spare queue_stands same = by_says a.says refl s.ready.0.says
+    → Ending (record p { history = record p.history { past = past_after c a.says p.history.past }; pools = q.pools; queues = q.queues }) c acts rest n
+performed p q c a acts rest n s pool_stands shapes spare queue_stands same = by_says a.says refl s.ready.0.says
   where
     ready : AreReady p.declarations (shifted_step a.index a.to s.pool) (arrived_step a.index a.enters s.queue) acts
     ready = ready-after p.declarations s.pool s.queue a.index a.to a.enters acts s.ready.1.0 s.ready.1.1
 
     by_says : (o : Option What) → a.says ≡ o → MaySay o
-        → Releasing (record p { history = record p.history { past = past_after c o p.history.past }; pools = q.pools; queues = q.queues }) c acts n
+        → Ending (record p { history = record p.history { past = past_after c o p.history.past }; pools = q.pools; queues = q.queues }) c acts rest n
     by_says None is may =
         record {
           fixed = record { graph = s.fixed.graph; limits = s.fixed.limits; cores = s.fixed.cores; allowed = s.fixed.allowed };
           all = s.all;
           served = s.served;
-          core = core-tail p.declarations c acts s.core;
-          due = s.due ∙ ap (λ (x : Option What). entries_by c (with_said x (said acts))) is;
+          core = core-tail p.declarations c acts rest s.core;
+          due = s.due ∙ ap (λ (x : Option What). entries_by c (with_said x (said_then acts rest))) is;
           pool = shifted_step a.index a.to s.pool;
           pools = pool_stands s.pool s.pools;
           pool_lag = s.pool_lag;
@@ -167,35 +150,19 @@ performed p q c a acts n s pool_stands shapes spare queue_stands same = by_says 
           mintable = let r = s.mintable in omega (arith, r, spare);
           afforded = s.afforded;
         }
-    by_says (Some (What.Out r kind words)) is may =
-        let e : Entry = entry_by c (What.Out r kind words) in
-        let first : due p.declarations p.history.past ≡ e ∷ entries_by c (said acts) = told-first p c a acts n (What.Out r kind words) s is in
-        let sum = needed-out p.declarations p.history.past c r kind words e (entries_by c (said acts)) first in
-        record {
-          fixed = record { graph = s.fixed.graph; limits = s.fixed.limits; cores = s.fixed.cores; allowed = s.fixed.allowed };
-          all = told-all p c a acts n (What.Out r kind words) s is;
-          served = (refl, s.served);
-          core = core-tail p.declarations c acts s.core;
-          due = ap (λ ds. due_after ds (tail p.declarations p.history.past e)) first;
+    by_says (Some w) is may =
+        let t = act-told w may in
+        told p (record p { pools = q.pools; queues = q.queues }) c w (a ∷ acts) acts rest rest n t.told s s.core
+        (told-first p c a acts rest n w s is) (t.ends p.declarations p.history.past (entry_by c w ∷ p.history.past) c)
+        (record {
           pool = shifted_step a.index a.to s.pool;
           pools = pool_stands s.pool s.pools;
-          pool_lag = s.pool_lag;
+          pool_lag = t.pools p.declarations p.history.past c ∙ s.pool_lag;
           pool_shape = shapes ∙ s.pool_shape;
           queue = arrived_step a.index a.enters s.queue;
           queues = queue_stands p.declarations s.queue s.queues;
-          queue_lag = s.queue_lag;
+          queue_lag = t.queues p.declarations p.history.past c ∙ s.queue_lag;
           queue_shape = same ∙ s.queue_shape;
-          atomics = s.atomics;
-          groups = groups-kept p.declarations p.groups p.history.past c (What.Out r kind words) refl s.groups;
-          orders = orders-kept p.declarations p.orders p.history.past c (What.Out r kind words) n refl s.orders;
           ready = ready;
-          kept = record { count = s.kept.count; room = s.kept.room; lists = s.kept.lists; once = s.kept.once; below = s.kept.below };
-          cores = s.cores;
-          contexts = λ d lt. s.contexts d lt ∙ sym (opening-stays p.declarations p.history.past c d (What.Out r kind words) (λ o. refl) (λ n. refl));
-          started = s.started;
-          within = s.within;
-          room = let r = s.room in omega (arith, r, sum);
-          mintable = let r = s.mintable in omega (arith, r, sum, spare);
-          afforded = (λ b is whole. absurd (cc (whole, first)), s.afforded);
-        }
-    by_says (Some w) is may = absurd may
+          spare = spare;
+        })

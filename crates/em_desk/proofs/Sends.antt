@@ -88,12 +88,12 @@ event-is p w s o =
     ∙ ap (option_map pool.event_of) mint)
 
 -- an index in a list of items is that of an item
-record ItemAt (xs : List Item) (i : ℕ) : Type 0 where
-  handle : ℕ
-  there : has_item xs handle ≡ true
-  index : index_of handle ≡ i
+pub record ItemAt (xs : List Item) (i : ℕ) : Type 0 where
+  pub handle : ℕ
+  pub there : has_item xs handle ≡ true
+  pub index : index_of handle ≡ i
 
-item-at : (xs : List Item) (i : ℕ) → has (map index_in xs) i ≡ true → ItemAt xs i
+pub item-at : (xs : List Item) (i : ℕ) → has (map index_in xs) i ≡ true → ItemAt xs i
 item-at [] i h = absurd (cc h)
 item-at (x ∷ xs) i h = by_test (index_of x.handle == i) refl h (item-at xs i)
   where
@@ -273,7 +273,7 @@ send-stands : (p q : Parts) (c w : ℕ) (to : QueueId) (way : Way) (o : IsOurs p
     → Releasing (record p { history = pushed p c (send_of w to (open_number p.history.past c)); pools = q.pools; orders = q.orders }) c (sent_acts way (send_act p.declarations o.minter.event c w to)) 0
 send-stands p q c w to way ours s may ok inside queue a =
     let n = open_number p.history.past c in
-    asked-begun p (record q { queues = p.queues; atomics = p.atomics; groups = p.groups; kept = p.kept }) c (Ask.Send w to None) (send_of w to n) (sent_acts way (send_act p.declarations ours.minter.event c w to)) 0 s
+    asked-begun p (record q { queues = p.queues; atomics = p.atomics; groups = p.groups; kept = p.kept }) c (Ask.Send w to None) (send_of w to n) (sent_acts way (send_act p.declarations ours.minter.event c w to)) [] 0 s
     (send-asked p c w to s may ok) may.served
     (send-cause p.declarations p.history.past c w to n way ours.minter ours.minting a.goes) (core-of way)
     (subst (λ (how : Spend). pools.Stands q.pools (Spent c w how (length p.history.past) ∷ steps_of p)) (sym (how-of way a.goes)) a.pools) a.pool_shape (let same = a.spare in omega (arith, same))
@@ -288,7 +288,7 @@ send-stands p q c w to way ours s may ok inside queue a =
     (send-ready p ours.minter.event c w to way s inside may.core queue (is-unlisted p w s ours)))
     (kept-same p.declarations p.history.past (entry_by c (send_of w to n) ∷ p.history.past) p.kept (λ x. refl) s.kept)
   where
-    core-of : (way : Way) → IsCore p.declarations c (sent_acts way (send_act p.declarations ours.minter.event c w to))
+    core-of : (way : Way) → IsCore p.declarations c (sent_acts way (send_act p.declarations ours.minter.event c w to)) []
     core-of Way.Enter = may.core
     core-of (Way.Held n) = tt
 

@@ -3,6 +3,8 @@ use Rattle.std.specs.Prelude.{ℕ, ◌≡◌, ◌<◌, false, List, [], ◌∷�
 use Rattle.em_log.specs.declared.declarations.Declarations.{Declarations}
 use Rattle.em_log.specs.declared.entry.What.{What}
 use Rattle.em_log.specs.declared.entry.Event.{Event}
+use Rattle.em_log.specs.declared.fault.Call.{Call}
+use Rattle.em_log.specs.declared.fault.Fault.{Fault}
 use Rattle.em_log.specs.declared.ids.QueueId.{QueueId}
 use Rattle.em_log.specs.History.{Past, entry_by, has, index_of}
 use Rattle.em_log.specs.Declarations.{kind_of, is_output, event_total}
@@ -22,10 +24,13 @@ abbrev pub with_said : Option What → List What → List What
 with_said None ws = ws
 with_said (Some w) ws = w ∷ ws
 
--- the entries that these acts tell, in order
+-- the entries that these acts tell, in order, and then these
+abbrev pub said_then : List Act → List What → List What
+said_then [] rest = rest
+said_then (a ∷ acts) rest = with_said a.says (said_then acts rest)
+
 abbrev pub said : List Act → List What
-said [] = []
-said (a ∷ acts) = with_said a.says (said acts)
+said acts = said_then acts []
 
 abbrev pub past_after : ℕ → Option What → Past → Past
 past_after c None past = past
@@ -60,10 +65,11 @@ CanEnter k t i None = Unit {0}
 CanEnter k t i (Some e) =
     (i < event_total k.pools) × ((e.queue.0 < length k.queues) × ((e.core.0 < k.cores) × (is_listed k t i ≡ false)))
 
--- an act tells an output
+-- an act tells an output, or that a note was lost
 abbrev pub MaySay : Option What → Type 0
 MaySay None = Unit {0}
 MaySay (Some (What.Out q kind words)) = Unit {0}
+MaySay (Some (What.Fault Call.Note (Fault.NoteLost q) None)) = Unit {0}
 MaySay _ = ⊥
 
 pub record IsReady (k : Declarations) (s : List PoolStep) (t : List QueueStep) (a : Act) : Type 0 where

@@ -1,7 +1,9 @@
--- How the parts stand for a history in the middle of an ask: core c has still to do these acts, and to release n held sends.
+-- How the parts stand for a history in the middle of an ask: core c has still to do these acts, to tell the rest, and to release
+-- n held sends.
 use Rattle.std.specs.Prelude.{ℕ, ◌≡◌, ◌≤◌, ◌<◌, false, List, [], ◌∷◌, length, map}
 use Rattle.std.specs.List.{AllByRecursion}
 use Rattle.em_log.specs.declared.declarations.Declarations.{Declarations}
+use Rattle.em_log.specs.declared.entry.What.{What}
 use Rattle.em_log.specs.History.{Past, entries_by, has, index_of}
 use Rattle.em_log.specs.Declarations.{event_total}
 use Rattle.em_log.specs.Places.{started, kept}
@@ -22,17 +24,18 @@ use Rattle.em_desk.specs.Graphs.{AreInBounds, AreInRange}
 use Rattle.em_desk.specs.Served.{AllServed}
 use Rattle.em_desk.specs.Groups.{GroupsStand}
 use Rattle.em_desk.specs.Orders.{OrdersStand}
-use Rattle.em_desk.specs.Acts.{said, pool_acts, queue_acts, AreReady, AreReleases}
+use Rattle.em_desk.specs.Acts.{said_then, pool_acts, queue_acts, AreReady, AreReleases}
 use Rattle.em_desk.specs.Lines.{LinesState, list_at}
 use Rattle.em_desk.specs.Openings.{opening_at, opening_of}
 use Rattle.em_bounds.specs.Room.{needed, lefts}
 use Rattle.em_bounds.specs.Bound.{AllAfforded}
 use Rattle.em_desk.specs.Choices.{AreAllowed}
 
--- a core that has something to do is one of the graph
-abbrev pub IsCore : Declarations → ℕ → List Act → Type 0
-IsCore k c [] = Unit {0}
-IsCore k c (a ∷ acts) = c < k.cores
+-- a core that has something to do or to tell is one of the graph
+abbrev pub IsCore : Declarations → ℕ → List Act → List What → Type 0
+IsCore k c [] [] = Unit {0}
+IsCore k c [] (w ∷ rest) = c < k.cores
+IsCore k c (a ∷ acts) rest = c < k.cores
 
 -- what does not change in a run
 pub record IsFixed (p : Parts) : Type 0 where
@@ -57,12 +60,12 @@ pub record AreKept (k : Declarations) (past : Past) (v : LinesState) : Type 0 wh
 abbrev pub shape_of : Declarations → Shape
 shape_of k = record { cores = k.cores; queues = length k.queues; events = event_total k.pools }
 
-pub record Releasing (p : Parts) (c : ℕ) (acts : List Act) (n : ℕ) : Type 0 where
+pub record Ending (p : Parts) (c : ℕ) (acts : List Act) (rest : List What) (n : ℕ) : Type 0 where
   pub fixed : IsFixed p
   pub all : AllAllowed p.declarations p.limits p.history.past
   pub served : AllServed p.declarations p.history.past
-  pub core : IsCore p.declarations c acts
-  pub due : due p.declarations p.history.past ≡ entries_by c (said acts)
+  pub core : IsCore p.declarations c acts rest
+  pub due : due p.declarations p.history.past ≡ entries_by c (said_then acts rest)
   -- the pools and the queues stand for steps to which the acts add what is missing, and the atomic contexts for all of theirs
   pub pool : List PoolStep
   pub pools : pools.Stands p.pools pool
@@ -87,12 +90,16 @@ pub record Releasing (p : Parts) (c : ℕ) (acts : List Act) (n : ℕ) : Type 0 
   -- each ask was afforded, which bounds the history
   pub afforded : AllAfforded p.declarations p.history.past
 
+-- nothing is told but by the acts
+abbrev pub Releasing : Parts → ℕ → List Act → ℕ → Type 0
+Releasing p c acts n = Ending p c acts [] n
+
 abbrev pub Standing : Parts → ℕ → List Act → Type 0
 Standing p c acts = Releasing p c acts 0
 
 -- the acts are the releases of all that the end of a ticket has let in
-pub record IsReleasing (p : Parts) (c : ℕ) (acts : List Act) : Type 0 where
-  pub standing : Releasing p c acts (length p.orders.due)
+pub record IsReleasing (p : Parts) (c : ℕ) (acts : List Act) (rest : List What) : Type 0 where
+  pub standing : Ending p c acts rest (length p.orders.due)
   pub releases : AreReleases p.declarations (pool_steps p.declarations p.history.past) p.orders.due acts
 
 -- between asks nothing is left to do

@@ -2,6 +2,7 @@
 ghost use Rattle.std.specs.Prelude.{◌≡◌, ◌+◌, ◌≤◌, ◌∷◌, ◌<◌, false, ℕ, List, [], None, Some, length, IfSome, IsTrue};
 ghost use Rattle.em_log.specs.declared.declarations.Declarations.{Declarations as TheDeclarations};
 ghost use Rattle.em_log.specs.declared.entry.Event.{Event as TheEvent};
+ghost use Rattle.em_log.specs.declared.entry.What.{What as TheWhat};
 ghost use Rattle.em_log.specs.Declarations.{event_total};
 ghost use Rattle.em_log.specs.History.{index_of as index_of_handle, entries_by, onto};
 ghost use Rattle.em_bounds.specs.Paid.{paid, pays};
@@ -14,7 +15,7 @@ ghost use Rattle.em_queues.specs.State.{shape, is_listed_at};
 ghost use Rattle.em_queues.specs.Stands as queue;
 ghost use Rattle.em_desk.specs.declared.acts.Act.{Act as TheAct};
 ghost use Rattle.em_desk.specs.Acts.{shifted_step, arrived_step, past_after, send_act, release_act, said};
-ghost use Rattle.em_desk.specs.Standing.{Releasing, IsReleasing, Stands};
+ghost use Rattle.em_desk.specs.Standing.{Ending, IsReleasing};
 
 use crate::history::History;
 use crate::parts::Parts;
@@ -77,8 +78,8 @@ fn say(history: &mut History, core: CoreId, says: Option<What>)
 impl Parts {
     /// Does one thing that is left to do in the core's ask.
     pub fn perform(&mut self, core: CoreId, act: Act)
-        requires { (acts : List TheAct) × (n : ℕ) × Releasing self.old core.0 (act ∷ acts) n }
-        ensures stands { (acts : List TheAct) (n : ℕ) → Releasing self.old core.0 (act ∷ acts) n → Releasing self.new core.0 acts n }
+        requires { (acts : List TheAct) × (rest : List TheWhat) × (n : ℕ) × Ending self.old core.0 (act ∷ acts) rest n }
+        ensures stands { (acts : List TheAct) (rest : List TheWhat) (n : ℕ) → Ending self.old core.0 (act ∷ acts) rest n → Ending self.new core.0 acts rest n }
         ensures past { self.new.history.past ≡ past_after core.0 act.says self.old.history.past }
         ensures declarations { self.new.declarations ≡ self.old.declarations }
         ensures limits { self.new.limits ≡ self.old.limits }
@@ -97,9 +98,9 @@ impl Parts {
 
     /// Lets in, by the end of the core's ticket, what it has released.
     pub fn release(&mut self, core: CoreId)
-        requires { (acts : List TheAct) × IsReleasing self.old core.0 acts }
-        ensures stands { Stands self.new }
-        ensures past { (acts : List TheAct) → IsReleasing self.old core.0 acts → self.new.history.past ≡ onto (entries_by core.0 (said acts)) self.old.history.past }
+        requires { (acts : List TheAct) × (rest : List TheWhat) × IsReleasing self.old core.0 acts rest }
+        ensures stands { (acts : List TheAct) (rest : List TheWhat) → IsReleasing self.old core.0 acts rest → Ending self.new core.0 [] rest 0 }
+        ensures past { (acts : List TheAct) (rest : List TheWhat) → IsReleasing self.old core.0 acts rest → self.new.history.past ≡ onto (entries_by core.0 (said acts)) self.old.history.past }
         ensures declarations { self.new.declarations ≡ self.old.declarations }
         ensures limits { self.new.limits ≡ self.old.limits }
     {

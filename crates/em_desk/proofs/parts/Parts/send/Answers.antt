@@ -137,6 +137,7 @@ perform-requires c =
     let s = c.requires.stands in
     let way = enter-is c.send-way.result c.in_default-way.not-Held in (
       [],
+      [],
       0,
       stood p n c.args.word c.place-place.result c.index_of-index.result c.args.queue Way.Enter c.spending.result c.open_number-ticket.result c.sending-act.result c.push.new.self
           c.spend.new.self c.send-way.new.self s c.requires.may
@@ -153,7 +154,7 @@ returns-clause-stands c =
     let n = c.args.core.0 in
     let s = c.requires.stands in
     let way = enter-is c.send-way.result c.in_default-way.not-Held in
-    at-rest c.perform.new.self n (c.perform.ensures.stands [] 0
+    at-rest c.perform.new.self n (c.perform.ensures.stands [] [] 0
     (stood p n c.args.word c.place-place.result c.index_of-index.result c.args.queue Way.Enter c.spending.result c.open_number-ticket.result c.sending-act.result c.push.new.self
     c.spend.new.self c.send-way.new.self s c.requires.may
     (rule-is p n c.args.word None s c.in_default.ensures.answer) c.in_default.ensures.within
