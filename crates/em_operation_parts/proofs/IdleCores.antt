@@ -74,7 +74,7 @@ owed-first k past c (n ∷ ns) v is = by_owed (log.owed_to k past c n) refl is (
     by_owed None at is later = later is
     by_owed (Some u) at is later = (n, at ∙ is)
 
-all-numbers : (p : ℕ → Bool) (a w : ℕ) → ((c : ℕ) → a ≤ c → c < a + w → p c ≡ true) → list_all p (numbers_from a w) ≡ true
+pub all-numbers : (p : ℕ → Bool) (a w : ℕ) → ((c : ℕ) → a ≤ c → c < a + w → p c ≡ true) → list_all p (numbers_from a w) ≡ true
 all-numbers p a zero each = refl
 all-numbers p a (suc w) each =
     let here : p a ≡ true = each a (omega arith) (omega arith) in

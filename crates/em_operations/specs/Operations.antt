@@ -94,6 +94,12 @@ pub record HasCore (v : Operations) (c : ℕ) : Type 0 where
   pub stands : OperationsStand graph v past
   pub core : c < graph.cores
 
+-- some history has come so
+pub record IsOfHistory (v : Operations) : Type 0 where
+  pub graph : Declarations
+  pub past : Past
+  pub stands : OperationsStand graph v past
+
 -- core c may take from queue q: its object runs, it is enabled, and the mask in force of its group has the core
 abbrev pub may_take : Declarations → Past → ℕ → ℕ → Bool
 may_take k past c q = runs k past q && flag past q && is_in_group k past c q

@@ -2,13 +2,13 @@
 ghost use Rattle.std.specs.Prelude.{◌≡◌, ℕ, ◌∷◌, ◌==◌, is_some};
 ghost use Rattle.std.specs.Option.{option_map};
 ghost use Rattle.em_log.specs.History.{Past, entry_by};
-ghost use Rattle.em_log.specs.Lawful.{AllAllowed};
-ghost use Rattle.em_log.specs.Operations.{operation, notes_of, all_acked, step};
+ghost use Rattle.em_log.specs.Lawful.{AllAllowed, Lawful};
+ghost use Rattle.em_log.specs.Operations.{operation, notes_of, all_acked, all_done, step};
 ghost use Rattle.em_log.specs.declared.declarations.Declarations.{Declarations as TheDeclarations};
 ghost use Rattle.em_log.specs.declared.entry.What.{What as TheWhat};
 ghost use Rattle.em_log.specs.declared.ids.Limits.{Limits as TheLimits};
 ghost use Rattle.em_acks.specs.declared.job.Phase.{Phase as ThePhase};
-ghost use Rattle.em_operations.specs.Operations.{OperationsStand, HasCore, CanEnd, CanFinish, owed_entry};
+ghost use Rattle.em_operations.specs.Operations.{OperationsStand, IsOfHistory, HasCore, CanEnd, CanFinish, owed_entry};
 
 use crate::begun::{Owed, owed_of};
 use crate::operations::Operations;
@@ -22,6 +22,19 @@ impl Operations {
         ensures { (k : TheDeclarations) (l : TheLimits) (past : Past) → AllAllowed k l past → OperationsStand k self.now past → result ≡ is_some (step k past core.0) }
     {
         self.acks.owed(core).is_some()
+    }
+
+    /// Whether each operation that has begun is done: no core owes a step.
+    pub fn are_done(&self) -> bool
+        requires { IsOfHistory self.now }
+        ensures { (k : TheDeclarations) (l : TheLimits) (past : Past) → Lawful k l past → OperationsStand k self.now past → result ≡ all_done past }
+    {
+        for core in 0..self.cores {
+            if self.owes(CoreId(core)) {
+                return false;
+            }
+        }
+        true
     }
 
     /// The step of the least operation that the core owes, if it owes one.
