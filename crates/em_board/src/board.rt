@@ -19,6 +19,7 @@ use crate::pass::{Pass, Passes};
 use crate::shared_desk::SharedDesk;
 use em_desk::Desk;
 use em_log::{Ask, Config, CoreId, Limits, Locals, MAX_CORES, NoMemory, Reply};
+use em_replies::BriefReply;
 use em_turn::{Turn, TurnSeat};
 use std::alloc::Global;
 use std::marker::Model;
@@ -144,9 +145,27 @@ impl Board {
         ensures ok { IfOk result (λ r. IsTaken pass.old pass.new r) }
         ensures err { OnErr result (IsUntaken pass.old pass.new) }
     {
+        let brief = self.take_brief(wait, pass, local)?;
+        Ok(brief.into_reply())
+    }
+
+    /// The same as `take`, with its reply in a small form.
+    pub fn take_brief(
+        &self,
+        wait: &impl Wait,
+        pass: &mut Pass,
+        local: &Locals,
+    ) -> Result<BriefReply, NoMemory>
+        requires here { pass.old.board ≡ self.now }
+        requires no_locals { local.now ≡ [] }
+        requires closed { context (history pass.old.seen) pass.old.core ≡ None }
+        requires untaken { taken pass.old.fixed.declarations (history pass.old.seen) pass.old.core ≡ [] }
+        ensures ok { IfOk result (λ r. IsTaken pass.old pass.new r) }
+        ensures err { OnErr result (IsUntaken pass.old pass.new) }
+    {
         let mut shared = self.turn.enter(wait, &mut pass.seat);
         shared.is_lawful();
-        let result = shared.take(pass.core, local);
+        let result = shared.take_brief(pass.core, local);
         self.turn.leave(&mut pass.seat, shared);
         result
     }
@@ -160,9 +179,27 @@ impl Board {
         requires served { IsTrue (served pass.old.fixed.declarations ask) }
         ensures { IsAsked pass.old pass.new ask result }
     {
+        self.ask_brief(wait, pass, ask, local).into_reply()
+    }
+
+    /// The same as `ask`, with its reply in a small form.
+    pub fn ask_brief(
+        &self,
+        wait: &impl Wait,
+        pass: &mut Pass,
+        ask: Ask,
+        local: &Locals,
+    ) -> BriefReply
+        requires here { pass.old.board ≡ self.now }
+        requires no_locals { local.now ≡ [] }
+        requires may_ask { IsTrue (may_ask pass.old.fixed.declarations (history pass.old.seen) pass.old.core ask) }
+        requires allowance { cost_of_ask ask ≤ left pass.old.fixed.declarations (history pass.old.seen) pass.old.core }
+        requires served { IsTrue (served pass.old.fixed.declarations ask) }
+        ensures { IsAsked pass.old pass.new ask result }
+    {
         let mut shared = self.turn.enter(wait, &mut pass.seat);
         shared.is_lawful();
-        let reply = shared.ask(pass.core, ask, local);
+        let reply = shared.ask_brief(pass.core, ask, local);
         self.turn.leave(&mut pass.seat, shared);
         reply
     }

@@ -10,7 +10,8 @@ ghost use Rattle.em_board.specs.Marked.{history, is_marked};
 ghost use Rattle.em_board.specs.SharedDesks.{fixed_of, desk_in, HasOwner, SharedTook, SharedAnswered};
 
 use em_desk::Desk;
-use em_log::{Ask, CoreId, Limits, Locals, NoMemory, Reply};
+use em_log::{Ask, CoreId, Limits, Locals, NoMemory};
+use em_replies::BriefReply;
 use em_turn::Listed;
 use std::alloc::Global;
 use std::marker::Model;
@@ -68,7 +69,7 @@ impl SharedDesk {
     }
 
     /// A take of the desk. Err is want of memory.
-    pub fn take(&mut self, core: CoreId, local: &Locals) -> Result<Reply, NoMemory>
+    pub fn take_brief(&mut self, core: CoreId, local: &Locals) -> Result<BriefReply, NoMemory>
         requires core { core.0 < self.old.fixed.declarations.cores }
         requires no_locals { local.now ≡ [] }
         requires closed { context (history self.old.items) core.0 ≡ None }
@@ -76,13 +77,13 @@ impl SharedDesk {
         ensures ok { IfOk result (λ r. SharedTook self.old self.new core.0 r) }
         ensures err { OnErr result (self.new ≡ self.old) }
     {
-        let reply = self.desk.take(core, local)?;
+        let reply = self.desk.take_brief(core, local)?;
         let _log = self.desk.log();
         Ok(reply)
     }
 
     /// An ask of the desk.
-    pub fn ask(&mut self, core: CoreId, ask: Ask, local: &Locals) -> Reply
+    pub fn ask_brief(&mut self, core: CoreId, ask: Ask, local: &Locals) -> BriefReply
         requires core { core.0 < self.old.fixed.declarations.cores }
         requires no_locals { local.now ≡ [] }
         requires may_ask { IsTrue (may_ask self.old.fixed.declarations (history self.old.items) core.0 ask) }
@@ -90,7 +91,7 @@ impl SharedDesk {
         requires served { IsTrue (served self.old.fixed.declarations ask) }
         ensures { SharedAnswered self.old self.new core.0 ask result }
     {
-        let reply = self.desk.ask(core, ask, local);
+        let reply = self.desk.ask_brief(core, ask, local);
         let _log = self.desk.log();
         reply
     }

@@ -1,5 +1,6 @@
 //! The desk of a run.
 ghost use Rattle.std.specs.Prelude.{◌≡◌, ◌<◌, ◌≤◌, [], length, reverse, true, false, None, IfOk, OnErr, IsTrue, is_some};
+ghost use Rattle.em_log.specs.declared.ask.Answer.{Answer};
 ghost use Rattle.em_log.specs.Declarations.{declarations_of};
 ghost use Rattle.em_log.specs.Contexts.{context};
 ghost use Rattle.em_log.specs.Places.{taken};
@@ -25,12 +26,11 @@ use crate::parts::Parts;
 use crate::shapes::{event_count, object_of};
 use crate::takes::Received;
 use em_egroups::EventGroups;
-use em_log::{
-    Answer, Ask, Config, Context, CoreId, EndKind, Entry, Limits, Locals, NoMemory, Reply, declare,
-};
+use em_log::{Ask, Config, CoreId, EndKind, Entry, Limits, Locals, NoMemory, Reply, declare};
 use em_order::Orders;
 use em_pool::Pools;
 use em_queues::Queues;
+use em_replies::{BriefAnswer, BriefReply};
 use std::alloc::Global;
 use std::marker::Model;
 
@@ -101,19 +101,35 @@ impl Desk {
         ensures idle { IfOk result (λ r. r.answer ≡ Answer.Idle → IsWaited self.old.declarations self.old.limits self.old.past core.0) }
         ensures err { OnErr result (self.new ≡ self.old) }
     {
+        let brief = self.take_brief(core, local)?;
+        Ok(brief.into_reply())
+    }
+
+    /// The same as `take`, with its reply in a small form.
+    pub fn take_brief(&mut self, core: CoreId, local: &Locals) -> Result<BriefReply, NoMemory>
+        requires core { core.0 < self.old.declarations.cores }
+        requires no_locals { local.now ≡ [] }
+        requires closed { context self.old.past core.0 ≡ None }
+        requires untaken { taken self.old.declarations self.old.past core.0 ≡ [] }
+        ensures takes { IfOk result (λ r. Takes self.old.declarations self.old.limits self.old.halted self.old.past core.0 r.answer self.new.past) }
+        ensures owed { IfOk result (λ r. r.owed ≡ is_some (step self.old.declarations self.new.past core.0)) }
+        ensures run { IsSameRun self.old self.new }
+        ensures idle { IfOk result (λ r. r.answer ≡ Answer.Idle → IsWaited self.old.declarations self.old.limits self.old.past core.0) }
+        ensures err { OnErr result (self.new ≡ self.old) }
+    {
         self.parts.make_room()?;
         if self.halted {
-            return Ok(told(Answer::Halted));
+            return Ok(told(BriefAnswer::Halted));
         }
         if self.parts.history.is_empty() {
             if core.0 > 0 {
-                return Ok(told(Answer::Idle));
+                return Ok(told(BriefAnswer::Idle));
             }
             self.parts.boot();
-            return Ok(told(Answer::Context(Context::Boot)));
+            return Ok(told(BriefAnswer::Boot));
         }
         if is_booting(self.parts.contexts.as_slice()) {
-            return Ok(told(Answer::Idle));
+            return Ok(told(BriefAnswer::Idle));
         }
         let Some(queue) = self.parts.choice(core) else {
             return Ok(told(rest(self.parts.end_kind())));
@@ -130,6 +146,18 @@ impl Desk {
     /// An ask of the core's open context, which has enough left of its allowance. It adds the entry that the ask gives
     /// with all that follows, and answers by that entry. The ask is one that the desk serves.
     pub fn ask(&mut self, core: CoreId, ask: Ask, local: &Locals) -> Reply
+        requires core { core.0 < self.old.declarations.cores }
+        requires no_locals { local.now ≡ [] }
+        requires may_ask { IsTrue (may_ask self.old.declarations self.old.past core.0 ask) }
+        requires allowance { cost_of_ask ask ≤ left self.old.declarations self.old.past core.0 }
+        requires served { IsTrue (served self.old.declarations ask) }
+        ensures { IsAnswered self.old self.new core.0 (lead self.old.declarations self.old.past core.0 ask) result }
+    {
+        self.ask_brief(core, ask, local).into_reply()
+    }
+
+    /// The same as `ask`, with its reply in a small form.
+    pub fn ask_brief(&mut self, core: CoreId, ask: Ask, local: &Locals) -> BriefReply
         requires core { core.0 < self.old.declarations.cores }
         requires no_locals { local.now ≡ [] }
         requires may_ask { IsTrue (may_ask self.old.declarations self.old.past core.0 ask) }

@@ -1,29 +1,28 @@
 //! Replies to a take.
 ghost use Rattle.std.specs.Prelude.{◌≡◌, [], false, None};
+ghost use Rattle.em_replies.specs.Answers.{whole_answer};
 ghost use Rattle.em_log.specs.declared.ask.Answer.{Answer as TheAnswer};
 ghost use Rattle.em_desk.specs.Answers.{rest_of};
 ghost use Rattle.em_log.specs.declared.ask.Context.{Context as TheContext};
 
-use em_log::{Answer, Cells, Context, EndKind, EoId, Event, QueueId, Receive, Reply, Rest};
+use em_log::{Cells, EndKind, EoId, Event, QueueId};
+use em_replies::{BriefAnswer, BriefReceive, BriefReply};
 
 /// A reply after which no step is owed.
-pub fn told(answer: Answer) -> Reply
-    ensures { result ≡ record { answer = answer; owed = false } }
+pub fn told(answer: BriefAnswer) -> BriefReply
+    ensures { result ≡ record { answer = whole_answer answer; owed = false } }
 {
-    Reply {
-        answer,
-        owed: false,
-    }
+    BriefReply::new(answer, false)
 }
 
 /// The answer where nothing is taken: how the history has ended, if it has, else that there is nothing to do for now.
-pub fn rest(ended: Option<EndKind>) -> Answer
-    ensures { result ≡ rest_of ended }
+pub fn rest(ended: Option<EndKind>) -> BriefAnswer
+    ensures { whole_answer result ≡ rest_of ended }
 {
     match ended {
-        Some(EndKind::Quiet) => Answer::Quiet,
-        Some(EndKind::Limit) => Answer::Limit,
-        None => Answer::Idle,
+        Some(EndKind::Quiet) => BriefAnswer::Quiet,
+        Some(EndKind::Limit) => BriefAnswer::Limit,
+        None => BriefAnswer::Idle,
     }
 }
 
@@ -34,16 +33,15 @@ pub fn received(
     event: Event,
     ticket: Option<u32>,
     cells: Option<Cells>,
-) -> Answer
-    ensures { result ≡ TheAnswer.Context (TheContext.Receive (record { queue = queue; eo = eo; event = event; stamp = None; ticket = ticket; cells = cells; rest = [] })) }
+) -> BriefAnswer
+    ensures { whole_answer result ≡ TheAnswer.Context (TheContext.Receive (record { queue = queue; eo = eo; event = event; stamp = None; ticket = ticket; cells = cells; rest = [] })) }
 {
-    Answer::Context(Context::Receive(Receive {
+    BriefAnswer::Receive(BriefReceive {
         queue,
         eo,
         event,
         stamp: None,
         ticket,
         cells,
-        rest: Rest::new(),
-    }))
+    })
 }

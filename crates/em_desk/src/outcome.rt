@@ -2,7 +2,8 @@
 ghost use Rattle.std.specs.Prelude.{◌≡◌, false};
 ghost use Rattle.em_desk.specs.State.{answer_by};
 
-use em_log::{Answer, Event, Fault, Reply};
+use em_log::{Event, Fault};
+use em_replies::{BriefAnswer, BriefReply};
 
 /// What an ask comes to: a small form of its answer.
 #[derive(Drop)]
@@ -14,17 +15,14 @@ pub enum Outcome {
 }
 
 /// The reply to an ask, after which no step is owed.
-pub fn reply(outcome: Outcome) -> Reply
+pub fn reply(outcome: Outcome) -> BriefReply
     ensures { result ≡ record { answer = answer_by outcome; owed = false } }
 {
     let answer = match outcome {
-        Outcome::Done => Answer::Done,
-        Outcome::Nothing => Answer::Nothing,
-        Outcome::Minted(event) => Answer::Minted(event),
-        Outcome::Refused(fault) => Answer::Refused(fault),
+        Outcome::Done => BriefAnswer::Done,
+        Outcome::Nothing => BriefAnswer::Nothing,
+        Outcome::Minted(event) => BriefAnswer::Minted(event),
+        Outcome::Refused(fault) => BriefAnswer::Refused(fault),
     };
-    Reply {
-        answer,
-        owed: false,
-    }
+    BriefReply::new(answer, false)
 }

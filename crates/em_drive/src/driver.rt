@@ -13,6 +13,7 @@ use crate::run::tell;
 use em_board::{Board, Pass};
 use em_core::{CoreRun, Step};
 use em_log::{Answer, Ask, CoreId, EndKind, Gate, Work};
+use em_replies::Replies;
 use std::sync::Wait;
 
 /// How the run of a core has ended: as the history has, since the board was halted, or for want of memory.
@@ -68,31 +69,41 @@ fn take<W: Work, R: Wait, G: Gate>(
     run: &mut CoreRun<W>,
     core: CoreId,
     gate: &G,
+    replies: &mut Replies,
 ) -> Turned
     requires here { (pass.old.board ≡ board.now) × (pass.old.core ≡ core.0) }
     requires driven { (f : W.Fixed) × (g : TheConfig) × (l : TheLimits) × (IsDriven W.Work (Some TheStep.Take) f g l pass.old run.old) }
     ensures after { (f : W.Fixed) (g : TheConfig) (l : TheLimits) → IsDriven W.Work (Some TheStep.Take) f g l pass.old run.old → IsAfterTurn W.Work f g l pass.new run.new result }
     ensures pass { IsSamePass pass.old pass.new }
 {
-    let Ok(reply) = board.take(rt, pass, run.locals()) else {
+    let Ok(brief) = board.take_brief(rt, pass, run.locals()) else {
         board.halt(rt, pass);
         return Turned::Ended(CoreEnd::NoMemory);
     };
+    replies.put(brief);
+    let reply = replies.last();
     tell(gate, core, &reply.answer);
-    run.told(&reply);
+    run.told(reply);
     comes_to(&reply.answer)
 }
 
 /// The core asks.
-fn ask<W: Work, R: Wait>(rt: &R, board: &Board, pass: &mut Pass, run: &mut CoreRun<W>, ask: Ask)
+fn ask<W: Work, R: Wait>(
+    rt: &R,
+    board: &Board,
+    pass: &mut Pass,
+    run: &mut CoreRun<W>,
+    ask: Ask,
+    replies: &mut Replies,
+)
     requires here { pass.old.board ≡ board.now }
     requires driven { (f : W.Fixed) × (g : TheConfig) × (l : TheLimits) × (IsDriven W.Work (Some (TheStep.Ask ask)) f g l pass.old run.old) }
     ensures after { (f : W.Fixed) (g : TheConfig) (l : TheLimits) → IsDriven W.Work (Some (TheStep.Ask ask)) f g l pass.old run.old → IsDriven W.Work None f g l pass.new run.new }
     ensures pass { IsSamePass pass.old pass.new }
 {
     ask.is_typed();
-    let reply = board.ask(rt, pass, ask, run.locals());
-    run.told(&reply);
+    replies.put(board.ask_brief(rt, pass, ask, run.locals()));
+    run.told(replies.last());
 }
 
 /// One turn of the core: it makes one ask.
@@ -103,6 +114,7 @@ pub fn turn<W: Work, R: Wait, G: Gate>(
     run: &mut CoreRun<W>,
     core: CoreId,
     gate: &G,
+    replies: &mut Replies,
 ) -> Turned
     requires here { (pass.old.board ≡ board.now) × (pass.old.core ≡ core.0) }
     requires driven { (f : W.Fixed) × (g : TheConfig) × (l : TheLimits) × (IsDriven W.Work None f g l pass.old run.old) }
@@ -110,9 +122,9 @@ pub fn turn<W: Work, R: Wait, G: Gate>(
     ensures pass { IsSamePass pass.old pass.new }
 {
     match next_step(rt, run) {
-        Step::Take => take(rt, board, pass, run, core, gate),
+        Step::Take => take(rt, board, pass, run, core, gate, replies),
         Step::Ask(next) => {
-            ask(rt, board, pass, run, next);
+            ask(rt, board, pass, run, next, replies);
             Turned::On
         }
         _ => unreachable!(),
@@ -134,8 +146,9 @@ pub fn drive<W: Work, R: Wait, G: Gate>(
     ensures pass { IsSamePass pass.old pass.new }
 {
     let mut idle = Idle::new();
+    let mut replies = Replies::new();
     for _ in rt.forever() {
-        match turn(rt, board, pass, run, core, gate) {
+        match turn(rt, board, pass, run, core, gate, &mut replies) {
             Turned::On => idle.end(),
             Turned::Idle => idle.wait(rt),
             Turned::Ended(end) => return end,

@@ -20,6 +20,7 @@ use em_body::{BodyRun, steps_run_out};
 use em_core::{CoreRun, Step};
 use em_desk::{Desk, well_formed_is_in_bounds};
 use em_log::{Answer, Ask, Config, Context, CoreId, EndKind, Gate, Limits, NoMemory};
+use em_replies::Replies;
 use std::alloc::Global;
 
 /// Does nothing: its clauses say what the runs need of a desk's history.
@@ -74,6 +75,7 @@ fn take<'a, G: Gate>(
     run: &mut CoreRun<BodyRun<'a>>,
     core: CoreId,
     gate: &G,
+    replies: &mut Replies,
 ) -> Result<Option<EndKind>, NoMemory>
     requires { (g : TheConfig) × (l : TheLimits) × (IsAwaiting (Some TheStep.Take) g l desk.old core.0 run.old) }
     ensures after { (g : TheConfig) (l : TheLimits) → IsAwaiting (Some TheStep.Take) g l desk.old core.0 run.old → IfOk result (IsAfter g l desk.new core.0 run.new) }
@@ -81,15 +83,23 @@ fn take<'a, G: Gate>(
     ensures turned { (g : TheConfig) (l : TheLimits) → IsAwaiting (Some TheStep.Take) g l desk.old core.0 run.old → IfOk result (λ end. end ≡ None → HasTurned g l desk.old.past core.0 desk.new.past) }
 {
     history_is_lawful(desk);
-    let reply = desk.take(core, run.locals())?;
+    let brief = desk.take_brief(core, run.locals())?;
     history_is_lawful(desk);
+    replies.put(brief);
+    let reply = replies.last();
     tell(gate, core, &reply.answer);
-    run.told(&reply);
+    run.told(reply);
     Ok(end_by(&reply.answer))
 }
 
 /// The core asks.
-fn ask<'a>(desk: &mut Desk, run: &mut CoreRun<BodyRun<'a>>, core: CoreId, ask: Ask)
+fn ask<'a>(
+    desk: &mut Desk,
+    run: &mut CoreRun<BodyRun<'a>>,
+    core: CoreId,
+    ask: Ask,
+    replies: &mut Replies,
+)
     requires { (g : TheConfig) × (l : TheLimits) × (IsAwaiting (Some (TheStep.Ask ask)) g l desk.old core.0 run.old) }
     ensures after { (g : TheConfig) (l : TheLimits) → IsAwaiting (Some (TheStep.Ask ask)) g l desk.old core.0 run.old → IsAwaiting None g l desk.new core.0 run.new }
     ensures grown { IsGrownBy core.0 desk.old.past desk.new.past }
@@ -97,9 +107,9 @@ fn ask<'a>(desk: &mut Desk, run: &mut CoreRun<BodyRun<'a>>, core: CoreId, ask: A
 {
     history_is_lawful(desk);
     ask.is_typed();
-    let reply = desk.ask(core, ask, run.locals());
+    replies.put(desk.ask_brief(core, ask, run.locals()));
     history_is_lawful(desk);
-    run.told(&reply);
+    run.told(replies.last());
 }
 
 /// One turn of the core: it makes one ask. Answers how the run has ended, if it has. Err is want of memory.
@@ -108,6 +118,7 @@ fn turn<'a, G: Gate>(
     run: &mut CoreRun<BodyRun<'a>>,
     core: CoreId,
     gate: &G,
+    replies: &mut Replies,
 ) -> Result<Option<EndKind>, NoMemory>
     requires { (g : TheConfig) × (l : TheLimits) × (IsAwaiting None g l desk.old core.0 run.old) }
     ensures after { (g : TheConfig) (l : TheLimits) → IsAwaiting None g l desk.old core.0 run.old → IfOk result (IsAfter g l desk.new core.0 run.new) }
@@ -115,9 +126,9 @@ fn turn<'a, G: Gate>(
     ensures turned { (g : TheConfig) (l : TheLimits) → IsAwaiting None g l desk.old core.0 run.old → IfOk result (λ end. end ≡ None → HasTurned g l desk.old.past core.0 desk.new.past) }
 {
     match next_step(run) {
-        Step::Take => take(desk, run, core, gate),
+        Step::Take => take(desk, run, core, gate, replies),
         Step::Ask(next) => {
-            ask(desk, run, core, next);
+            ask(desk, run, core, next, replies);
             Ok(None)
         }
         _ => unreachable!(),
@@ -130,6 +141,7 @@ fn turn_of<'a, G: Gate>(
     runs: &mut [CoreRun<BodyRun<'a>>],
     core: CoreId,
     gate: &G,
+    replies: &mut Replies,
 ) -> Result<Option<EndKind>, NoMemory>
     requires core { core.0 < length runs.old }
     requires going { (g : TheConfig) × (l : TheLimits) × (AreGoing g l desk.old runs.old) }
@@ -137,7 +149,7 @@ fn turn_of<'a, G: Gate>(
     ensures ended { (g : TheConfig) (l : TheLimits) → AreGoing g l desk.old runs.old → IfOk result (λ end. IfSome end (λ kind. IsRun g l desk.new kind)) }
     ensures turned { (g : TheConfig) (l : TheLimits) → AreGoing g l desk.old runs.old → IfOk result (λ end. end ≡ None → HasTurned g l desk.old.past core.0 desk.new.past) }
 {
-    let end = turn(desk, &mut runs[usize::from(core.0)], core, gate)?;
+    let end = turn(desk, &mut runs[usize::from(core.0)], core, gate, replies)?;
     history_is_lawful(desk);
     Ok(end)
 }
@@ -180,10 +192,17 @@ pub fn solo<G: Gate>(
     well_formed_is_in_bounds();
     let mut desk = Desk::build(alloc, config, limits)?;
     let mut runs = new_runs(alloc, config)?;
+    let mut replies = Replies::new();
     loop {
         history_is_lawful(&desk);
         for core in order.as_slice() {
-            if let Some(end) = turn_of(&mut desk, runs.as_mut_slice(), CoreId(*core), gate)? {
+            if let Some(end) = turn_of(
+                &mut desk,
+                runs.as_mut_slice(),
+                CoreId(*core),
+                gate,
+                &mut replies,
+            )? {
                 return Ok((desk, end));
             }
         }

@@ -6,6 +6,7 @@ use crate::idle::Idle;
 use crate::workers::{Ends, Plan, Worker};
 use em_board::Board;
 use em_log::{Gate, Work};
+use em_replies::Replies;
 use std::sync::Wait;
 
 /// Runs the cores, each to its end before the next one.
@@ -40,6 +41,7 @@ pub(crate) fn drive_in_turns<W: Work + Drop, R: Wait, G: Gate>(
     ensures { HaveRun W.Work plan.now board.now workers.items ends result }
 {
     let mut idle = Idle::new();
+    let mut replies = Replies::new();
     // How many more turns in a row may find nothing to do before the thread waits.
     let mut idlers = workers.len();
     for _ in rt.forever() {
@@ -47,7 +49,7 @@ pub(crate) fn drive_in_turns<W: Work + Drop, R: Wait, G: Gate>(
             return drive_each(rt, board, plan, workers, ends, gate);
         }
         let mut worker = workers.remove(0);
-        let turned = worker.turn(rt, board, plan, gate);
+        let turned = worker.turn(rt, board, plan, gate, &mut replies);
         match turned {
             Turned::Ended(end) => {
                 let Worker { pass, .. } = worker;

@@ -6,6 +6,7 @@ use crate::driver::{CoreEnd, Turned, drive, turn};
 use em_board::{Board, Pass, Passes};
 use em_core::CoreRun;
 use em_log::{Config, CoreId, Gate, Limits, Work};
+use em_replies::Replies;
 use std::snapshot::Snapshot;
 use std::sync::Wait;
 
@@ -54,13 +55,22 @@ impl<W: Work + Drop> Worker<W> {
         board: &Board,
         plan: &Plan<W>,
         gate: &G,
+        replies: &mut Replies,
     ) -> Turned
         requires at_work { IsAtWork W.Work plan.now board.now self.old }
         ensures after { IsTurned W.Work plan.now board.now self.new result }
         ensures core { (self.new.core ≡ self.old.core) × (self.new.pass.core ≡ self.old.core.0) }
     {
         let _ = plan;
-        turn(rt, board, &mut self.pass, &mut self.run, self.core, gate)
+        turn(
+            rt,
+            board,
+            &mut self.pass,
+            &mut self.run,
+            self.core,
+            gate,
+            replies,
+        )
     }
 
     /// Runs the core until its run has ended.

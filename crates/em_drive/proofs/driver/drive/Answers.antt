@@ -4,6 +4,10 @@ use Rattle.em_drive.specs.Driven.{IsAfterTurn}
 use Rattle.em_drive.proofs.Working.{passes-on}
 use Rattle.em_drive.proofs.driver.drive.Goals as goal
 
+pub turn-requires-clause-driven : goal.turn-requires-clause-driven
+turn-requires-clause-driven g c =
+    let d = c.requires.driven in (d.0, d.1, d.2, c.loop.invariant.driven d.0 d.1 d.2 d.3)
+
 pub loop-preserved-in-On : goal.loop-preserved-in-On
 loop-preserved-in-On g c =
     record {

@@ -60,3 +60,6 @@ loop-preserved g c =
           (subst (λ ws. HaveRun k plan board ws ends now) (sym cut)
           (turned-run k plan board w v rest ends now c.turn-turned.ensures.core.0 (subst (λ ws. HaveRun k plan board ws ends now) c.push_reserved.ensures.items run)));
     }
+
+pub returns-then-len-lt2 : goal.returns-then-len-lt2
+returns-then-len-lt2 g c = c.loop.invariant.run c.drive_each.result c.drive_each.ensures

@@ -10,7 +10,7 @@ use Rattle.em_desk.specs.declared.parts.Parts.{Parts}
 use Rattle.em_desk.specs.Standing.{Stands}
 use Rattle.em_desk.specs.State.{DeskState, state_of, IsAnswered, Adds, answer_by, outcome_of}
 use Rattle.em_desk.proofs.TakeAnswers.{owed-by}
-use Rattle.em_desk.proofs.desk.Desk.ask.Goals as goal
+use Rattle.em_desk.proofs.desk.Desk.ask_brief.Goals as goal
 
 -- an ask is answered by what it comes to
 answer-is : (w : What) → answer_by (outcome_of w) ≡ answer_of w
