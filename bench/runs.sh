@@ -9,6 +9,8 @@
 #   bench/runs.sh instructions   a receive that sends its event on to its own queue: in the smallest graph, at 10,000 receives
 #                                against 1,000, with 4,096 live events, 256 queues, 64 objects and 8 cores.
 #                                Wished: at most 1.1 times for the longer run, and 1.2 times for each of the others.
+#   bench/runs.sh faults         a receive that makes 100 refused asks, each of which an error body handles, at 20 and at 200
+#                                receives. Wished: at most 1.1 times, since the run is linear in its entries.
 #   bench/runs.sh ordered        a receive of an ordered queue that sends 60 events, with all of them held back by an earlier ticket
 #                                against none. Wished: at most 1.3 times.
 cd "$(dirname "$0")/.." || exit 1
@@ -53,6 +55,11 @@ script_of() {
     cores)
         # As many events as cores, so that each core has one.
         smallest | awk '/^cores/ { $2 = 8 } /^pool/ { $3 = 8 } /^alloc/ { print "repeat 8" } { print } /^send v0/ { print "end" }'
+        ;;
+    faults)
+        printf 'cores 1\npool p 1 1\neo x running\nqueue q parallel x normal all\nboot\nalloc v0 p 0 7\nsend v0 q\nend\n'
+        printf 'error\nset v0 add fault detail\nend\n'
+        printf 'body x receive\nrepeat 100\nfree 5\nend\nsend me q\nend\ndone\n'
         ;;
     ordered)
         # Of two contexts side by side, that of the event of kind $2 sends 60 events, and the other one, or both, say as much.
@@ -101,6 +108,13 @@ instructions)
         [ "$name" != cores ] || order=0,1,2,3,4,5,6,7
         tell "$name" "$(each 1000 2000 "$order")" "$middle"
     done
+    exit
+    ;;
+faults)
+    script_of faults >"$script"
+    first=$(each 1 20 0) || exit 1
+    tell '100 faults a receive, 20 receives' "$first" "$first"
+    tell '100 faults a receive, 200 receives' "$(each 1 200 0)" "$first"
     exit
     ;;
 ordered)

@@ -1,30 +1,34 @@
--- No error body serves a context of a runnable graph.
-use Rattle.std.proofs.Common.{◌≡◌, ℕ, zero, suc, List, [], ◌∷◌, Option, Some, None, refl, ap, ◌∙◌, IsTrue, is_none, slice_get}
+-- The error body that serves a context of a runnable graph runs.
+use Rattle.std.proofs.Common.{ℕ, zero, suc, List, [], ◌∷◌, Option, Some, None, refl, IsTrue, slice_get}
 use Rattle.std.proofs.lemmas.Bool.{and_parts}
 use Rattle.std.specs.List.{list_all}
 use Rattle.std.specs.Option.{option_or, option_and_then}
 use Rattle.em_log.specs.declared.ask.Context.{Context}
+use Rattle.em_log.specs.declared.body.Stmt.{Stmt}
 use Rattle.em_log.specs.declared.graph.Config.{Config}
 use Rattle.em_log.specs.declared.graph.EoDecl.{EoDecl}
 use Rattle.em_body.specs.Standings.{error_body_of, object_of}
-use Rattle.em_drive.specs.Runnable.{is_runnable}
-use Rattle.em_drive.proofs.RunnableParts.{runnable-no_error, runnable-objects}
+use Rattle.em_drive.specs.Runnable.{is_runnable, is_runnable_error}
+use Rattle.em_drive.proofs.RunnableParts.{runnable-parts, runnable-objects}
 
-none-is : {A : Type 0} (o : Option A) → IsTrue (is_none o) → o ≡ None
-none-is None is = refl
-none-is (Some x) is = absurd cc
+got-error : (ds : List EoDecl) (n : ℕ) → IsTrue (list_all (λ d. is_runnable_error d.error) ds)
+    → IsTrue (is_runnable_error (option_and_then (λ (d : EoDecl). d.error) (slice_get ds n)))
+got-error [] n all = refl
+got-error (d ∷ ds) zero all = (and_parts (is_runnable_error d.error) (list_all (λ (e : EoDecl). is_runnable_error e.error) ds) all).0
+got-error (d ∷ ds) (suc n) all =
+    got-error ds n (and_parts (is_runnable_error d.error) (list_all (λ (e : EoDecl). is_runnable_error e.error) ds) all).1
 
-got-no_error : (ds : List EoDecl) (n : ℕ) → IsTrue (list_all (λ d. is_none d.error) ds)
-    → option_and_then (λ (d : EoDecl). d.error) (slice_get ds n) ≡ None
-got-no_error [] n all = refl
-got-no_error (d ∷ ds) zero all = none-is d.error (and_parts (is_none d.error) (list_all (λ (e : EoDecl). is_none e.error) ds) all).0
-got-no_error (d ∷ ds) (suc n) all = got-no_error ds n (and_parts (is_none d.error) (list_all (λ (e : EoDecl). is_none e.error) ds) all).1
+object-error : (ds : List EoDecl) (o : Option ℕ) → IsTrue (list_all (λ d. is_runnable_error d.error) ds)
+    → IsTrue (is_runnable_error (option_and_then (λ (d : EoDecl). d.error) (option_and_then (slice_get ds) o)))
+object-error ds None all = refl
+object-error ds (Some n) all = got-error ds n all
 
-object-no_error : (ds : List EoDecl) (o : Option ℕ) → IsTrue (list_all (λ d. is_none d.error) ds)
-    → option_and_then (λ (d : EoDecl). d.error) (option_and_then (slice_get ds) o) ≡ None
-object-no_error ds None all = refl
-object-no_error ds (Some n) all = got-no_error ds n all
+else-error : (own global : Option (List Stmt)) → IsTrue (is_runnable_error own) → IsTrue (is_runnable_error global)
+    → IsTrue (is_runnable_error (option_or own global))
+else-error None global own all = all
+else-error (Some body) global own all = own
 
-pub no-error_body : (g : Config) → IsTrue (is_runnable g) → (context : Context) → error_body_of g context ≡ None
-no-error_body g h context =
-    ap (λ o. option_or o g.error) (object-no_error g.eos (object_of context) (runnable-objects g h)) ∙ runnable-no_error g h
+pub runnable-error : (g : Config) → IsTrue (is_runnable g) → (context : Context) → IsTrue (is_runnable_error (error_body_of g context))
+runnable-error g h context =
+    else-error (option_and_then (λ (d : EoDecl). d.error) (option_and_then (slice_get g.eos) (object_of context))) g.error
+    (object-error g.eos (object_of context) (runnable-objects g h)) (runnable-parts g h).error

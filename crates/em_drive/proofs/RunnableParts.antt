@@ -1,10 +1,10 @@
 -- The parts of a graph that runs today.
-use Rattle.std.proofs.Common.{◌≡◌, ℕ, zero, suc, Bool, true, false, not, ◌&&◌, ◌||◌, List, [], ◌∷◌, Option, Some, None, is_none, refl, subst, IsTrue, slice_get}
+use Rattle.std.proofs.Common.{◌≡◌, ℕ, zero, suc, Bool, true, false, not, ◌&&◌, ◌||◌, List, [], ◌∷◌, Option, Some, refl, subst, IsTrue, slice_get}
 use Rattle.std.proofs.lemmas.Bool.{and_parts}
 use Rattle.std.specs.List.{list_all}
 use Rattle.em_log.specs.declared.graph.Config.{Config}
 use Rattle.em_log.specs.declared.graph.EoDecl.{EoDecl}
-use Rattle.em_drive.specs.Runnable.{is_runnable, is_runnable_object, is_runnable_body}
+use Rattle.em_drive.specs.Runnable.{is_runnable, is_runnable_object, is_runnable_body, is_runnable_error}
 
 -- lists
 
@@ -27,21 +27,14 @@ all-more p q (x ∷ xs) more h =
 pub record Parts (g : Config) : Type 0 where
   pub objects : IsTrue (list_all is_runnable_object g.eos)
   pub boot : IsTrue (is_runnable_body g.boot)
-  pub error : g.error ≡ None
-
-none-of : {A : Type 0} (o : Option A) → is_none o ≡ true → o ≡ None
-none-of None h = refl
-none-of (Some x) h = absurd cc
+  pub error : IsTrue (is_runnable_error g.error)
 
 pub runnable-parts : (g : Config) → IsTrue (is_runnable g) → Parts g
 runnable-parts g h =
     let objects : Bool = list_all is_runnable_object g.eos in
-    let a = and_parts (objects && is_runnable_body g.boot) (is_none g.error) h in
+    let a = and_parts (objects && is_runnable_body g.boot) (is_runnable_error g.error) h in
     let b = and_parts objects (is_runnable_body g.boot) a.0 in
-    record { objects = b.0; boot = b.1; error = none-of g.error a.1 }
-
-pub runnable-no_error : (g : Config) → IsTrue (is_runnable g) → g.error ≡ None
-runnable-no_error g h = (runnable-parts g h).error
+    record { objects = b.0; boot = b.1; error = a.1 }
 
 -- objects
 
@@ -52,7 +45,7 @@ pub record ObjectParts (d : EoDecl) : Type 0 where
   pub stop : d.given.stop ≡ false
   pub lstart : d.given.lstart ≡ false
   pub lstop : d.given.lstop ≡ false
-  pub error : IsTrue (is_none d.error)
+  pub error : IsTrue (is_runnable_error d.error)
 
 none-given : (a b c d : Bool) → not (a || b || c || d) ≡ true → (a ≡ false) × (b ≡ false) × (c ≡ false) × (d ≡ false)
 none-given false false false false h = (refl, refl, refl, refl)
@@ -64,12 +57,12 @@ none-given false false false true h = absurd cc
 pub object-parts : (d : EoDecl) → IsTrue (is_runnable_object d) → ObjectParts d
 object-parts d h =
     let given : Bool = not (d.given.start || d.given.stop || d.given.lstart || d.given.lstop) in
-    let a = and_parts (d.running && is_runnable_body d.receive && given) (is_none d.error) h in
+    let a = and_parts (d.running && is_runnable_body d.receive && given) (is_runnable_error d.error) h in
     let b = and_parts (d.running && is_runnable_body d.receive) given a.0 in
     let c = and_parts d.running (is_runnable_body d.receive) b.0 in
     let e = none-given d.given.start d.given.stop d.given.lstart d.given.lstop b.1 in
     record { running = c.0; receive = c.1; start = e.0; stop = e.1; lstart = e.2; lstop = e.3; error = a.1 }
 
-pub runnable-objects : (g : Config) → IsTrue (is_runnable g) → IsTrue (list_all (λ d. is_none d.error) g.eos)
+pub runnable-objects : (g : Config) → IsTrue (is_runnable g) → IsTrue (list_all (λ d. is_runnable_error d.error) g.eos)
 runnable-objects g h =
-    all-more is_runnable_object (λ d. is_none d.error) g.eos (λ d is. (object-parts d is).error) (runnable-parts g h).objects
+    all-more is_runnable_object (λ d. is_runnable_error d.error) g.eos (λ d is. (object-parts d is).error) (runnable-parts g h).objects

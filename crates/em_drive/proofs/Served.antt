@@ -22,8 +22,8 @@ use Rattle.em_desk.specs.Served.{served, serves_queue}
 use Rattle.em_drive.specs.Runnable.{is_runnable, is_runnable_object, is_runnable_statement}
 use Rattle.em_drive.specs.Servable.{IsServable}
 use Rattle.em_drive.proofs.OpenQueues.{sends-served}
-use Rattle.em_drive.proofs.RunnableErrors.{no-error_body}
-use Rattle.em_drive.proofs.RunnableParts.{all-get, runnable-parts, runnable-no_error, runnable-objects, object-parts}
+use Rattle.em_drive.proofs.RunnableErrors.{runnable-error}
+use Rattle.em_drive.proofs.RunnableParts.{all-get, runnable-parts, object-parts}
 
 -- ---- bodies that were not given
 
@@ -95,10 +95,6 @@ runnable-bodies g well h (Context.LocalStart op x) = for-declared g well h x.0 (
 runnable-bodies g well h (Context.LocalStop op x) = for-declared g well h x.0 (Context.LocalStop op x) _ refl
 runnable-bodies g well h (Context.GlobalStop op x) = for-declared g well h x.0 (Context.GlobalStop op x) _ refl
 
-pub runnable-errors : (g : Config) → IsTrue (is_runnable g) → (context : Context)
-    → IsTrue (option_map_or (everywhere_in is_runnable_statement) (error_body_of g context) true)
-runnable-errors g h context = rw (no-error_body g h context) refl
-
 -- ---- what a statement that runs asks is served
 
 -- all notes are
@@ -134,8 +130,6 @@ pub runnable-servable : (g : Config) → IsWellFormed g → IsTrue (is_runnable 
 runnable-servable g well h =
     record {
       asks = λ c context es now a reached asks.
-          let of = asks-are is_runnable_statement (record { graph = g; core = c }) context es now reached (runnable-bodies g well h context) (runnable-errors g h context) a asks in
+          let of = asks-are is_runnable_statement (record { graph = g; core = c }) context es now reached (runnable-bodies g well h context) (runnable-error g h context) a asks in
           subst (λ (a : Ask). IsTrue (served (declarations_of g) a)) (sym of.is) (runnable-served g well h of.statement now.env of.passes of.asks);
-      error = runnable-no_error g h;
-      errors = runnable-objects g h;
     }

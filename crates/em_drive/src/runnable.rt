@@ -51,6 +51,16 @@ fn is_runnable_body(body: &[Stmt]) -> bool
     true
 }
 
+/// Whether an error body runs, where there is one.
+fn is_runnable_error(error: &Option<Block>) -> bool
+    ensures { result ≡ runnable.is_runnable_error error.now }
+{
+    match error {
+        Some(body) => is_runnable_body(body.as_slice()),
+        None => true,
+    }
+}
+
 fn is_runnable_object(object: &EoDecl) -> bool
     ensures { result ≡ runnable.is_runnable_object object.now }
 {
@@ -58,7 +68,7 @@ fn is_runnable_object(object: &EoDecl) -> bool
     object.running
         && is_runnable_body(object.receive.as_slice())
         && !(given.start || given.stop || given.lstart || given.lstop)
-        && object.error.is_none()
+        && is_runnable_error(&object.error)
 }
 
 fn are_runnable_objects(objects: &[EoDecl]) -> bool
@@ -72,7 +82,7 @@ fn is_runnable_graph(config: &Config) -> bool
 {
     are_runnable_objects(config.eos.as_slice())
         && is_runnable_body(config.boot.as_slice())
-        && config.error.is_none()
+        && is_runnable_error(&config.error)
 }
 
 /// Whether the graph runs today: a well-formed one that does is servable.

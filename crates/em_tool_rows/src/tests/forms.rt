@@ -55,14 +55,40 @@ const DECLARATIONS_RUN: [Form; 27] = [
 
 const DECLARATIONS_NOT_RUN_TODAY: [Form; 1] = [("cores 1", "eo y\n", "", "")];
 
-const BODIES_NOT_RUN_TODAY: [Form; 8] = [
+const ERROR_BODIES_RUN: [Form; 7] = [
     ("cores 1", "", "", "error\nend\n"),
+    ("cores 1", "", "", "body x error\nend\n"),
+    ("cores 1", "", "", "error\nend\nbody x error\nend\n"),
+    ("cores 1", "", "", "error\nsay fault\nsend me q\nend\n"),
+    (
+        "cores 1",
+        "",
+        "",
+        "body x error\nrepeat 2\nsay detail\nend\nend\n",
+    ),
+    (
+        "cores 1",
+        "",
+        "",
+        "body x receive\nfree 5\nend\nbody x error\nfree 6\nend\n",
+    ),
+    (
+        "cores 1",
+        "eo y running\n",
+        "",
+        "error\nend\nbody y error\nfree me\nend\n",
+    ),
+];
+
+const BODIES_NOT_RUN_TODAY: [Form; 9] = [
+    ("cores 1", "", "", "error\ndisable q\nend\n"),
+    ("cores 1", "", "", "error\nif eq ok 1\nenable q\nend\nend\n"),
+    ("cores 1", "", "", "body x error\nstop x\nend\n"),
     ("cores 1", "", "", "body x start\nend\n"),
     ("cores 1", "", "", "body x start\nfail\nend\n"),
     ("cores 1", "", "", "body x stop\nend\n"),
     ("cores 1", "", "", "body x lstart\nend\n"),
     ("cores 1", "", "", "body x lstop\nend\n"),
-    ("cores 1", "", "", "body x error\nend\n"),
     ("cores 1", "", "", "body x receive\nenable q\nend\n"),
 ];
 
@@ -105,9 +131,11 @@ fn judge_forms(rt: &impl Abort, alloc: Global, forms: &[Form]) -> Result<(), Fai
 fn forms_that_run(rt: HostRuntime) -> Result<(), Fail> {
     let alloc = rt.alloc();
     let run = "trace 1\n0 c0 enter boot\n1 c0 end lost 0\nquiet\n";
-    for form in &DECLARATIONS_RUN {
-        let bytes = script_of(alloc, form)?.as_bytes().to_vec(alloc)?;
-        judge(&rt, alloc, "solo 10 1 0", bytes, 0, run)?;
+    for forms in [DECLARATIONS_RUN.as_slice(), ERROR_BODIES_RUN.as_slice()] {
+        for form in forms {
+            let bytes = script_of(alloc, form)?.as_bytes().to_vec(alloc)?;
+            judge(&rt, alloc, "solo 10 1 0", bytes, 0, run)?;
+        }
     }
     Ok(())
 }

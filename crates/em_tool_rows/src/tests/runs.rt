@@ -109,6 +109,20 @@ fn runs_of_ordered_queues(rt: HostRuntime) -> Result<(), Fail> {
     judge_rows(&rt, alloc, &ORDERED_RUNS)
 }
 
+/// Boot's fault runs the global error body, and the receive's that of its object, whose own fault runs none.
+const ERROR_BODIES_OF_BOTH_SCOPES: Row = (
+    "solo 10 1 0",
+    "cores 1\npool p 4 1\neo x running\nqueue q parallel x normal all\nboot\nfree 5\nalloc v0 p 0\nsend v0 q\nend\nerror\nsay add 100 fault\nend\nbody x error\nsay add 200 fault\nfree 6\nend\nbody x receive\nfree 7\nfree me\nend\ndone\n",
+    0,
+    "trace 1\n0 c0 enter boot\n1 c0 fault free 1 5 global\n2 c0 say 101\n3 c0 alloc p0 65536 kind 0 words 0\n4 c0 send 65536 q0\n5 c0 end lost 0\n6 c0 take q0 1\n7 c0 start q0 131072 kind 0 words 0\n8 c0 fault free 1 7 o0\n9 c0 say 201\n10 c0 fault free 1 6 o0\n11 c0 free 131072\n12 c0 end lost 0\nquiet\n",
+);
+
+#[test]
+fn runs_of_error_bodies(rt: HostRuntime) -> Result<(), Fail> {
+    let alloc = rt.alloc();
+    judge_rows(&rt, alloc, &[ERROR_BODIES_OF_BOTH_SCOPES])
+}
+
 /// Of an order the cores count that the script has, and those that it lacks follow upwards.
 #[test]
 fn orders_with_other_cores(rt: HostRuntime) -> Result<(), Fail> {
