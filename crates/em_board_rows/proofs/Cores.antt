@@ -22,7 +22,7 @@ use Rattle.em_log.specs.Legal.{Lead, leads}
 use Rattle.em_log.specs.Tails.{tail_of}
 use Rattle.em_log.specs.Works.{is_end}
 use Rattle.em_core.proofs.Parts.{ack-tail}
-use Rattle.em_desk.specs.Served.{served, serves_queue}
+use Rattle.em_desk.specs.Served.{served}
 use Rattle.em_desk.specs.State.{IsWaited}
 use Rattle.em_drive.proofs.Asked.{AllKeep, asked-leads, follows-tail, keeps-context, lead-cost, lead-keeps, tail-keeps}
 use Rattle.em_drive.proofs.Ended.{ended-context}
@@ -70,7 +70,7 @@ module _ (k : Declarations) (l : Limits) (one : HasOneQueue k l) where
   pub serves : (a : Ask) → is_plain a ≡ true → served k a ≡ true
   serves (Ask.Alloc p kind words) plain = refl
   serves (Ask.Free w) plain = refl
-  serves (Ask.Send w q None) plain = λ i. serves_queue (one.is i) (eqb-true q.0 0 plain i)
+  serves (Ask.Send w q None) plain = refl
   serves (Ask.Say v) plain = refl
   serves a plain = absurd cc
 

@@ -49,6 +49,7 @@ abort-asked p c g may ok =
         begun = λ n c o. refl;
         started = λ n. refl;
         pays = omega arith;
+        operations = refl;
       };
     }
 

@@ -79,6 +79,7 @@ alloc-asked p c kind a words e may ok is =
         begun = λ n c o. refl;
         started = λ n. refl;
         pays = omega arith;
+        operations = refl;
       };
     }
 

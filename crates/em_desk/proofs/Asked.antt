@@ -170,6 +170,7 @@ refused-asked p c a asked f x may costs refused call is =
         begun = λ n c o. refl;
         started = λ n. refl;
         pays = fault-pays asked f x;
+        operations = refl;
       };
     }
 
@@ -201,6 +202,7 @@ free-asked p c w may ok =
         begun = λ n c o. refl;
         started = λ n. refl;
         pays = omega arith;
+        operations = refl;
       };
     }
 
@@ -222,6 +224,7 @@ say-asked p c v may =
         begun = λ n c o. refl;
         started = λ n. refl;
         pays = omega arith;
+        operations = refl;
       };
     }
 

@@ -1,5 +1,5 @@
 -- An ask begins by its first entry.
-use Rattle.std.proofs.Common.{◌≡◌, ℕ, ◌+◌, ◌<◌, ◌≤◌, [], ◌∷◌, List, Option, Some, length, refl, ap, sym, ◌∙◌, subst, arith, IsTrue}
+use Rattle.std.proofs.Common.{◌≡◌, ℕ, ◌+◌, ◌<◌, ◌≤◌, [], ◌∷◌, List, Option, Some, length, refl, ap, sym, ◌∙◌, subst, arith, IsTrue, false}
 use Rattle.em_log.specs.declared.ask.Ask.{Ask}
 use Rattle.em_log.specs.declared.declarations.Declarations.{Declarations}
 use Rattle.em_log.specs.declared.entry.What.{What}
@@ -32,6 +32,8 @@ use Rattle.em_desk.specs.Served.{is_served_entry}
 use Rattle.em_context_parts.specs.AtomicSteps.{atomic_steps, atomic_after}
 use Rattle.em_context_parts.specs.AtomicAlike.{AtomicsAlike}
 use Rattle.em_context_parts.proofs.AtomicCells.{atomics-alike}
+use Rattle.em_operations.specs.Operations.{OperationsStand, touches}
+use Rattle.em_operations.proofs.Kept.{operations-kept}
 use Rattle.em_desk.specs.Atomics.{AtomicsStand}
 use Rattle.em_desk.specs.Groups.{GroupsStand}
 use Rattle.em_desk.specs.Acts.{said, said_then, pool_acts, queue_acts, AreReady}
@@ -49,7 +51,7 @@ pushed p c w = record p.history { past = entry_by c w ∷ p.history.past }
 
 -- these parts, in the run of the others
 abbrev pub in_run : Parts → Parts → Parts
-in_run p q = record q { declarations = p.declarations; limits = p.limits; allowed = p.allowed }
+in_run p q = record q { declarations = p.declarations; limits = p.limits }
 
 -- what this entry leaves to do and to tell in its ask, once what it mints and spends is done
 pub record Causes (k : Declarations) (past : Past) (c : ℕ) (w : What) (acts : List Act) (rest : List What) : Type 0 where
@@ -69,6 +71,7 @@ pub record IsMade (p q : Parts) (c : ℕ) (w : What) (acts : List Act) (n : ℕ)
   pub atomics : AtomicsStand p.declarations q.atomics (atomic_after p.declarations p.history.past c w (atomic_steps p.declarations p.history.past))
   pub groups : GroupsStand p.declarations q.groups (entry_by c w ∷ p.history.past)
   pub orders : OrdersStand p.declarations q.orders (entry_by c w ∷ p.history.past) n
+  pub operations : OperationsStand p.declarations q.operations (entry_by c w ∷ p.history.past)
   pub ready : AreReady p.declarations (direct p.declarations p.history.past c w (pool_steps p.declarations p.history.past))
       (served_steps c w (queue_steps p.declarations p.history.past)) acts
   pub kept : AreKept p.declarations (entry_by c w ∷ p.history.past) q.kept
@@ -90,7 +93,7 @@ pub begun : (p q : Parts) (b c : ℕ) (w : What) (acts : List Act) (rest : List 
     → IsCore p.declarations c acts rest → IsMade p q c w acts n → Ending (record (in_run p q) { history = pushed p c w }) c acts rest n
 begun p q b c w acts rest n s lt begins served cause core m =
     record {
-      fixed = record { graph = s.fixed.graph; limits = s.fixed.limits; cores = s.fixed.cores; allowed = s.fixed.allowed };
+      fixed = record { graph = s.fixed.graph; limits = s.fixed.limits };
       all = all-with p b c w s lt begins;
       served = (served, s.served);
       core = core;
@@ -106,6 +109,7 @@ begun p q b c w acts rest n s lt begins served cause core m =
       atomics = m.atomics;
       groups = m.groups;
       orders = m.orders;
+      operations = m.operations;
       ready = m.ready;
       kept = m.kept;
       cores = m.cores ∙ s.cores;
@@ -155,6 +159,7 @@ at-rest p b s =
       atomics = s.atomics;
       groups = s.groups;
       orders = s.orders;
+      operations = s.operations;
       ready = tt;
       kept = s.kept;
       cores = s.cores;
@@ -168,13 +173,14 @@ at-rest p b s =
 
 -- asks that leave their context open
 
--- an entry that leaves contexts, operations and receives
+-- an entry that leaves contexts, receives, operations and flags
 pub record IsMild (w : What) : Type 0 where
   pub context : (o : Option What) → context_after w o ≡ o
   pub leads : (k : Declarations) (past : Past) (b : What) (ls : List Lead) → leads_after k past (Some b) w ls ≡ lead_here (due k past) past w ls
   pub begun : (n c : ℕ) (o : Option Operation) → begun_by n c w o ≡ o
   pub started : (n : ℕ) → started_after w n ≡ n
   pub pays : pays w ≤ cost_of_lead w
+  pub operations : touches w ≡ false
 
 -- an ask that may be made gives this entry, and has enough left for it
 pub record IsAsked (p : Parts) (c : ℕ) (a : Ask) (w : What) : Type 0 where
@@ -227,6 +233,7 @@ asked-begun p q c a w acts rest n s e served cause core stands shapes spare list
       atomics = contexts;
       groups = groups;
       orders = orders;
+      operations = operations-kept p.declarations p.operations p.history.past c w e.mild.operations s.operations;
       ready = ready;
       kept = kept;
       cores = refl;

@@ -7,6 +7,7 @@ use Rattle.em_log.specs.declared.entry.What.{What}
 use Rattle.em_log.specs.History.{Past, entry_by}
 use Rattle.em_log.specs.Lawful.{Boots}
 use Rattle.em_bounds.specs.Paid.{paid}
+use Rattle.em_operations.proofs.Kept.{operations-kept}
 use Rattle.em_desk.specs.declared.opening.Opening.{Opening}
 use Rattle.em_desk.specs.declared.parts.Parts.{Parts}
 use Rattle.em_desk.specs.Openings.{opening_at, opening_of}
@@ -67,6 +68,7 @@ boot-stands p q s none room spare opens =
       atomics = s.atomics;
       groups = groups-kept p.declarations p.groups p.history.past 0 boot refl s.groups;
       orders = orders-kept p.declarations p.orders p.history.past 0 boot 0 refl s.orders;
+      operations = operations-kept p.declarations p.operations p.history.past 0 boot refl s.operations;
       ready = tt;
       kept = kept-same p.declarations p.history.past (entry_by 0 boot ∷ p.history.past) p.kept (λ x. refl) s.kept;
       cores = ap length opens ∙ length-set p.contexts.items 0 Opening.Boot;

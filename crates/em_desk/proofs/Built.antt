@@ -12,6 +12,7 @@ use Rattle.em_desk.specs.declared.opening.Opening.{Opening}
 use Rattle.em_desk.specs.declared.parts.Parts.{Parts}
 use Rattle.em_order.specs.State.{shape as shape_of_orders}
 use Rattle.em_order.specs.Stands as order
+use Rattle.em_operations.specs.Operations.{OperationsStand}
 use Rattle.em_desk.specs.Atomics.{AtomicsStand}
 use Rattle.em_desk.specs.Groups.{GroupsStand}
 use Rattle.em_desk.specs.Orders.{order_shape}
@@ -42,13 +43,14 @@ kept-nothing k v lists room =
 
 pub built : (p : Parts) → IsFixed p → p.history.past ≡ [] → pools.Stands p.pools [] → p.pools.pools ≡ p.declarations.pools
     → queues.Stands p.declarations p.queues [] → shape p.queues ≡ shape_of p.declarations → AtomicsStand p.declarations p.atomics [] → GroupsStand p.declarations p.groups [] → order.Stands p.orders [] → shape_of_orders p.orders ≡ order_shape p.declarations
+    → OperationsStand p.declarations p.operations []
     → p.kept.lists ≡ empty_lists (length p.declarations.running) → p.kept.room ≡ event_total p.declarations.pools
     → p.contexts.items ≡ replicate p.declarations.cores Opening.Closed → p.started ≡ 0 → Stands p
-built p fixed fresh pools shapes queues same contexts groups tickets order_shapes lists room closed none =
+built p fixed fresh pools shapes queues same contexts groups tickets order_shapes operations lists room closed none =
     let empty = lefts-none p.declarations in
     subst (λ (h : Past). Stands (record p { history = record p.history { past = h } })) (sym fresh)
     (record {
-      fixed = record { graph = fixed.graph; limits = fixed.limits; cores = fixed.cores; allowed = fixed.allowed };
+      fixed = record { graph = fixed.graph; limits = fixed.limits };
       all = tt;
       served = tt;
       core = tt;
@@ -64,6 +66,7 @@ built p fixed fresh pools shapes queues same contexts groups tickets order_shape
       atomics = contexts;
       groups = groups;
       orders = record { steps = []; stands = tickets; lag = refl; shape = order_shapes };
+      operations = operations;
       ready = tt;
       kept = kept-nothing p.declarations p.kept lists room;
       cores = ap length closed ∙ length-replicate p.declarations.cores Opening.Closed;

@@ -51,6 +51,7 @@ dequeue-asked p c q e may ok is =
         begun = λ n c o. refl;
         started = λ n. refl;
         pays = omega arith;
+        operations = refl;
       };
     }
 
@@ -115,7 +116,7 @@ pub with-queues : (p : Parts) (v : QueueState) → Stands p → queues.Stands p.
     → Stands (record p { queues = v })
 with-queues p v s stands same =
     record {
-      fixed = record { graph = s.fixed.graph; limits = s.fixed.limits; cores = s.fixed.cores; allowed = s.fixed.allowed };
+      fixed = record { graph = s.fixed.graph; limits = s.fixed.limits };
       all = s.all;
       served = s.served;
       core = tt;
@@ -131,6 +132,7 @@ with-queues p v s stands same =
       atomics = s.atomics;
       groups = s.groups;
       orders = s.orders;
+      operations = s.operations;
       ready = tt;
       kept = s.kept;
       cores = s.cores;

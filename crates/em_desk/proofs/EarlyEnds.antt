@@ -97,5 +97,6 @@ early-asked p c rest cells may ok count =
         begun = λ n c o. refl;
         started = λ n. refl;
         pays = omega arith;
+        operations = refl;
       };
     }

@@ -62,6 +62,7 @@ ordered-asked p c may ok =
         begun = λ n c o. refl;
         started = λ n. refl;
         pays = omega arith;
+        operations = refl;
       };
     }
 

@@ -1,5 +1,5 @@
 -- How a history has ended, and what a take is answered that takes nothing.
-use Rattle.std.proofs.Common.{◌≡◌, ◌≢◌, ℕ, zero, suc, ◌<◌, ◌==◌, Bool, true, false, not, ◌&&◌, List, [], ◌∷◌, length, get_or, Option, Some, None, is_none, refl, ap, sym, ◌∙◌, arith, if◌then◌else◌}
+use Rattle.std.proofs.Common.{◌≡◌, ◌≢◌, ℕ, ◌<◌, ◌==◌, Bool, true, false, not, ◌&&◌, [], length, Option, Some, None, is_none, refl, ap, sym, ◌∙◌, arith, if◌then◌else◌}
 use Rattle.std.specs.List.{list_all, list_any}
 use Rattle.em_log.specs.declared.declarations.Declarations.{Declarations}
 use Rattle.em_log.specs.declared.entry.Body.{Body}
@@ -15,12 +15,12 @@ use Rattle.em_log.specs.Places.{started}
 use Rattle.em_log.specs.Eligible.{is_between, ready, is_idle, is_wanted, is_quiet, is_at_limit}
 use Rattle.em_log.specs.Answers.{RestAnswer, end_of}
 use Rattle.em_log.specs.Leads.{scope}
-use Rattle.em_queues.specs.declared.set.QueueSet.{QueueSet}
 use Rattle.em_queues.specs.Sets.{contains}
 use Rattle.em_parts.specs.QueueSteps.{queue_steps}
 use Rattle.em_desk.specs.declared.opening.Opening.{Opening}
 use Rattle.em_desk.specs.declared.parts.Parts.{Parts}
 use Rattle.em_desk.specs.Answers.{rest_of}
+use Rattle.em_operations.specs.Operations.{may_take}
 use Rattle.em_desk.specs.Choices.{IsAnyReady}
 use Rattle.em_desk.specs.Openings.{opening_at, opening_by, is_closed, is_boot}
 use Rattle.em_desk.specs.Standing.{Stands}
@@ -137,12 +137,7 @@ wanted-is p c q lt ql on =
     some-below (λ c. list_any (ready p.declarations p.history.past c) (below (length p.declarations.queues))) p.declarations.cores c lt
     (some-below (ready p.declarations p.history.past c) (length p.declarations.queues) q ql on)
 
-item-of : (xs : List QueueSet) (i : ℕ) → i < length xs → (x : QueueSet) × (x ≡ get_or xs i x)
-item-of [] i lt = absurd (omega arith)
-item-of (x ∷ xs) zero lt = (x, refl)
-item-of (x ∷ xs) (suc i) lt = item-of xs i (omega (arith, lt))
-
-pub unwanted-is : (p : Parts) → Stands p → IsAnyReady false p.queues p.allowed.items p.atomics.held → is_wanted p.declarations p.history.past ≡ false
+pub unwanted-is : (p : Parts) → Stands p → IsAnyReady false p.declarations.cores p.queues p.operations p.atomics.held → is_wanted p.declarations p.history.past ≡ false
 unwanted-is p s none =
     none-below (λ c. list_any (ready p.declarations p.history.past c) (below (length p.declarations.queues))) p.declarations.cores
     (λ c lt. none-below (ready p.declarations p.history.past c) (length p.declarations.queues) (λ q ql. by_ready c q lt (ready p.declarations p.history.past c q) refl))
@@ -150,11 +145,9 @@ unwanted-is p s none =
     by_ready : (c q : ℕ) → c < p.declarations.cores → (b : Bool) → ready p.declarations p.history.past c q ≡ b → ready p.declarations p.history.past c q ≡ false
     by_ready c q lt false off = off
     by_ready c q lt true on =
-        let cores = s.fixed.cores in
-        let inside : c < length p.allowed.items = omega (arith, cores, lt) in
-        let set : (x : QueueSet) × (x ≡ get_or p.allowed.items c x) = item-of p.allowed.items c inside in
-        let can = ready-by p c q (contains set.0 q && not (contains p.atomics.held q)) s ((λ i. s.fixed.allowed c q set.0 inside set.1 i && not (s.atomics.held q i))) on in
-        let off = none p.declarations (queue_steps p.declarations p.history.past) (settled-queues p 0 s) c set.0 inside set.1 q in
+        let can = ready-by p c q (may_take p.declarations p.history.past c q && not (contains p.atomics.held q)) s
+        (λ i. may_take p.declarations p.history.past c q && not (s.atomics.held q i)) on in
+        let off = none p.declarations p.limits p.history.past (queue_steps p.declarations p.history.past) refl s.all (settled-queues p 0 s) s.operations c lt q in
         absurd (cc (can, off))
 
 -- answers

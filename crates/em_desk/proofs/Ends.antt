@@ -42,6 +42,7 @@ use Rattle.em_desk.specs.declared.parts.Parts.{Parts}
 use Rattle.em_egroups.specs.Stands as groups
 use Rattle.em_context_parts.specs.AtomicSteps.{atomic_steps, ended_steps}
 use Rattle.em_context_parts.specs.EgroupSteps.{egroup_steps, left_steps}
+use Rattle.em_operations.proofs.Kept.{operations-kept}
 use Rattle.em_desk.specs.Atomics.{AtomicsStand, CanGive}
 use Rattle.em_desk.specs.Openings.{opening_at, opening_of}
 use Rattle.em_bounds.specs.Room.{needed}
@@ -217,6 +218,7 @@ end-stands p q c lost cells s may count stands shapes spare given opens ended =
               count = s.groups.count;
             };
             orders = ended.orders;
+            operations = operations-kept p.declarations p.operations p.history.past c (What.End lost cells) refl s.operations;
             ready = releases-ready p (Lost c (length p.history.past) ∷ steps_of p) (let_in_by p c w) s (λ i r there. not-lost i r there) held (λ h. let-in-once p c w (open_ticket p.history.past c) h s moment);
             kept = kept-same p.declarations p.history.past (entry_by c (What.End lost cells) ∷ p.history.past) p.kept (λ x. refl) s.kept;
             cores = ap length opens ∙ length-set p.contexts.items c Opening.Closed;

@@ -113,6 +113,7 @@ apply-asked p c a n g notes s may ok number =
         begun = λ n c o. refl;
         started = λ n. refl;
         pays = omega arith;
+        operations = refl;
       };
     }
 

@@ -166,6 +166,7 @@ keep-asked p c w may ok =
         begun = λ n c o. refl;
         started = λ n. refl;
         pays = omega arith;
+        operations = refl;
       };
     }
 
@@ -245,6 +246,7 @@ claim-asked p c e may is =
         begun = λ n c o. refl;
         started = λ n. refl;
         pays = omega arith;
+        operations = refl;
       };
     }
 

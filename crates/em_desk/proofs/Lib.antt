@@ -40,6 +40,6 @@ mod Receives
 mod Ended
 mod Built
 mod TakeAnswers
-mod QueueSets
+mod Flags
 mod AtomicSets
 mod HeldAtomics

@@ -17,6 +17,7 @@ use Rattle.em_pool.specs.Stands as pools
 use Rattle.em_queues.specs.Steps.{QueueStep, is_listed}
 use Rattle.em_queues.specs.State.{shape, is_listed_at}
 use Rattle.em_queues.specs.Stands as queues
+use Rattle.em_operations.proofs.Kept.{operations-kept}
 use Rattle.em_desk.specs.declared.acts.Act.{Act}
 use Rattle.em_desk.specs.declared.acts.Entrance.{Entrance}
 use Rattle.em_desk.specs.declared.parts.Parts.{Parts}
@@ -124,7 +125,7 @@ performed p q c a acts rest n s pool_stands shapes spare queue_stands same = by_
         → Ending (record p { history = record p.history { past = past_after c o p.history.past }; pools = q.pools; queues = q.queues }) c acts rest n
     by_says None is may =
         record {
-          fixed = record { graph = s.fixed.graph; limits = s.fixed.limits; cores = s.fixed.cores; allowed = s.fixed.allowed };
+          fixed = record { graph = s.fixed.graph; limits = s.fixed.limits };
           all = s.all;
           served = s.served;
           core = core-tail p.declarations c acts rest s.core;
@@ -140,6 +141,7 @@ performed p q c a acts rest n s pool_stands shapes spare queue_stands same = by_
           atomics = s.atomics;
           groups = s.groups;
           orders = s.orders;
+          operations = s.operations;
           ready = ready;
           kept = s.kept;
           cores = s.cores;
@@ -166,3 +168,4 @@ performed p q c a acts rest n s pool_stands shapes spare queue_stands same = by_
           ready = ready;
           spare = spare;
         })
+        (operations-kept p.declarations p.operations p.history.past c w t.operations s.operations)

@@ -27,9 +27,9 @@ use Rattle.em_parts.proofs.QueueLists.{queues-alike, served-output}
 use Rattle.em_moments.proofs.Choices.{ready-parts}
 use Rattle.em_desk.specs.declared.parts.Parts.{Parts}
 use Rattle.em_desk.specs.Atomics.{is_held}
-use Rattle.em_desk.specs.Choices.{is_allowed}
+use Rattle.em_operations.specs.Operations.{may_take}
 use Rattle.em_desk.specs.Standing.{Stands}
-use Rattle.em_desk.proofs.Served.{no-step, flag-set, runs-declared, group-declared}
+use Rattle.em_desk.proofs.Served.{no-step}
 use Rattle.em_desk.proofs.Begun.{untaken, atomics}
 use Rattle.em_desk.proofs.Numbers.{all-below, none-below}
 
@@ -77,9 +77,9 @@ unheld-is p q s = by_context (atomic_of p.declarations q)
     by_context (Some a) =
         none-some (holder p.declarations p.history.past a) ∙ ap (λ (o : Option ℕ). not (is_some o)) (sym ((atomics p 0 [] s).holder a))
 
--- the core may take from the queue as the graph is declared, and nobody holds its atomic context
+-- the core may take from the queue, and nobody holds its atomic context
 abbrev pub is_open : Parts → ℕ → ℕ → Bool
-is_open p c q = is_allowed p.declarations c q && not (is_held p.declarations (atomic_steps p.declarations p.history.past) q)
+is_open p c q = may_take p.declarations p.history.past c q && not (is_held p.declarations (atomic_steps p.declarations p.history.past) q)
 
 abbrev pub serves_by : Parts → ℕ → ℕ → Bool → Bool
 serves_by p c q may =
@@ -91,15 +91,16 @@ serve-by p c q may s f allowed can =
     let past = p.history.past in
     let some = both-true (may && is_served (kind_of k q)) _ can in
     let parts = both-true may (is_served (kind_of k q)) some.0 in
-    let free = both-true (is_allowed k c q) _ (sym allowed ∙ parts.0) in
-    let here = both-true (runs k [] q) (is_in_group k [] c q) free.0 in
+    let free = both-true (may_take k past c q) _ (sym allowed ∙ parts.0) in
+    let may_go = both-true (runs k past q && flag past q) (is_in_group k past c q) free.0 in
+    let open_now = both-true (runs k past q) (flag past q) may_go.0 in
     let waits : not (is_empty (waiting k past q c)) ≡ true = sym (serve-waits p c q s parts.1) ∙ some.1 in
     let unheld : is_unheld k past q ≡ true = unheld-is p q s ∙ free.1 in
     let bt = between p c s f in
     let unowed = no-step k past c s.served in
-    let run : runs k past q ≡ true = runs-declared k past q s.served ∙ here.0 in
-    let group : is_in_group k past c q ≡ true = group-declared k past c q s.served ∙ here.1 in
-    let on = flag-set k past q s.served in
+    let run = open_now.0 in
+    let group = may_go.1 in
+    let on = open_now.1 in
     let served = parts.1 in
     both _ (is_unheld k past q)
     (both _ (is_in_group k past c q)
@@ -118,11 +119,9 @@ ready-by p c q may s allowed h =
     let a5 = both-true _ (not (is_empty (waiting k past q c))) a6.0 in
     let a4 = both-true _ (flag past q) a5.0 in
     let a3 = both-true _ (runs k past q) a4.0 in
-    let run : runs k [] q ≡ true = sym (runs-declared k past q s.served) ∙ a3.1 in
-    let group : is_in_group k [] c q ≡ true = sym (group-declared k past c q s.served) ∙ a6.1 in
     let free : not (is_held k (atomic_steps k past) q) ≡ true = sym (unheld-is p q s) ∙ a7.1 in
     both (may && is_served (kind_of k q)) _
-    (both may (is_served (kind_of k q)) (allowed ∙ both (is_allowed k c q) _ (both (runs k [] q) (is_in_group k [] c q) run group) free) r.served)
+    (both may (is_served (kind_of k q)) (allowed ∙ both (may_take k past c q) _ (both (runs k past q && flag past q) (is_in_group k past c q) (both (runs k past q) (flag past q) a3.1 a4.1) a6.1) free) r.served)
     (serve-waits p c q s r.served ∙ a5.1)
 
 -- nobody holds the atomic context of a queue that is ready

@@ -46,6 +46,7 @@ use Rattle.em_parts.specs.QueueAlike.{index_in}
 use Rattle.em_parts.proofs.QueueLists.{queues-alike, served-output}
 use Rattle.em_desk.specs.declared.opening.Opening.{Opening}
 use Rattle.em_desk.specs.declared.parts.Parts.{Parts}
+use Rattle.em_operations.proofs.Kept.{operations-kept}
 use Rattle.em_desk.specs.Atomics.{cells_of, AtomicsStand, CanGrab}
 use Rattle.em_desk.specs.Openings.{opening_at, opening_of}
 use Rattle.em_bounds.specs.Room.{needed}
@@ -181,7 +182,7 @@ pub received : (p q' : Parts) (c : ℕ) (q : QueueId) (f : IsFirst p c q) → St
     → Stands (record p { history = record p.history { past = after_take p.history.past c q (next_number p q) (item_again p.history.past f.front.item) }; pools = q'.pools; queues = q'.queues; atomics = q'.atomics; orders = q'.orders; contexts = q'.contexts; started = q'.started })
 received p q' c q f s lt choice room spare pool_stands shapes minted queue_stands same held drawn order_same opens count less =
     record {
-      fixed = record { graph = s.fixed.graph; limits = s.fixed.limits; cores = s.fixed.cores; allowed = s.fixed.allowed };
+      fixed = record { graph = s.fixed.graph; limits = s.fixed.limits };
       all = start-all p c q s lt choice f;
       served = (refl, (refl, s.served));
       core = tt;
@@ -198,6 +199,8 @@ received p q' c q f s lt choice room spare pool_stands shapes minted queue_stand
       groups = groups-kept p.declarations p.groups (entry_by c (take_of q (next_number p q)) ∷ p.history.past) c (start_by q (item_again p.history.past f.front.item)) refl
           (groups-kept p.declarations p.groups p.history.past c (take_of q (next_number p q)) refl s.groups);
       orders = drawn-stands p q'.orders c q (item_again p.history.past f.front.item) None s drawn order_same;
+      operations = operations-kept p.declarations p.operations (entry_by c (take_of q (next_number p q)) ∷ p.history.past) c (start_by q (item_again p.history.past f.front.item)) refl
+          (operations-kept p.declarations p.operations p.history.past c (take_of q (next_number p q)) refl s.operations);
       ready = tt;
       kept = kept-same p.declarations p.history.past (after_take p.history.past c q (next_number p q) (item_again p.history.past f.front.item)) p.kept (λ x. refl) s.kept;
       cores = ap length opens ∙ (length-set p.contexts.items c _ ∙ s.cores);

@@ -30,7 +30,7 @@ pub with-orders : (p : Parts) (x : OrderState) (c : ℕ) (acts : List Act) (rest
     → Ending (record p { orders = x }) c acts rest m
 with-orders p x c acts rest n m s orders =
     record {
-      fixed = record { graph = s.fixed.graph; limits = s.fixed.limits; cores = s.fixed.cores; allowed = s.fixed.allowed };
+      fixed = record { graph = s.fixed.graph; limits = s.fixed.limits };
       all = s.all;
       served = s.served;
       core = s.core;
@@ -46,6 +46,7 @@ with-orders p x c acts rest n m s orders =
       atomics = s.atomics;
       groups = s.groups;
       orders = orders;
+      operations = s.operations;
       ready = s.ready;
       kept = s.kept;
       cores = s.cores;

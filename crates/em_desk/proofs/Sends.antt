@@ -1,5 +1,5 @@
 -- What a send leaves to do.
-use Rattle.std.proofs.Common.{◌≡◌, ℕ, ◌<◌, ◌==◌, Bool, true, false, nat_le, nat_lt, IsTrue, if◌then◌else◌, ◌||◌, ◌&&◌, [], ◌∷◌, List, length, map, Option, Some, None, is_none, is_some, refl, ap, sym, ◌∙◌, subst, arith}
+use Rattle.std.proofs.Common.{◌≡◌, ℕ, ◌<◌, ◌==◌, Bool, true, false, nat_le, nat_lt, IsTrue, if◌then◌else◌, ◌||◌, ◌&&◌, [], ◌∷◌, List, length, map, Option, Some, None, is_some, refl, ap, sym, ◌∙◌, subst, arith}
 use Rattle.std.specs.Option.{option_map, option_map_or, option_or, option_and_then}
 use Rattle.std.proofs.lemmas.Bool.{eq-eqb, ltb-true}
 use Rattle.em_log.specs.declared.ask.Ask.{Ask}
@@ -13,7 +13,6 @@ use Rattle.em_log.specs.History.{Past, entry_by, has, index_of}
 use Rattle.em_log.specs.Declarations.{event_total, kind_of, is_output}
 use Rattle.em_log.specs.Handles.{Minting, Spending, minting, spending, rule, rule_of}
 use Rattle.em_log.specs.Order.{Ticket, ticket_of_send, enters}
-use Rattle.em_log.specs.States.{closed}
 use Rattle.em_log.specs.Arrivals.{Item}
 use Rattle.em_log.specs.Places.{waiting, taken, has_item}
 use Rattle.em_log.specs.Leads.{refusal, closed_fault, open_number}
@@ -52,7 +51,6 @@ use Rattle.em_desk.specs.Acts.{send_act, IsReady, AreReady}
 use Rattle.em_desk.specs.Orders.{spend_by}
 use Rattle.em_desk.specs.Standing.{Releasing, Stands, IsCore}
 use Rattle.em_desk.specs.State.{MayAsk}
-use Rattle.em_desk.proofs.Served.{closed-declared}
 use Rattle.em_desk.proofs.OpenTickets.{settled-orders, alike, owned}
 use Rattle.em_desk.proofs.Listed.{Located, InQueue as ListedQueue, IsTaken, located}
 use Rattle.em_desk.proofs.Asked.{steps_of, own-lead, kept-same}
@@ -214,10 +212,6 @@ send-ready p e c w q Way.Enter s lt core queue absent = (by_kind (is_output (kin
     by_kind true t = rw t (record { moves = (lt, (can, refl)); enters = tt; says = tt })
     by_kind false t = rw t (record { moves = tt; enters = (lt, (queue, (core, absent))); says = tt })
 
-none-is : (o : Option ℕ) → is_none o ≡ true → o ≡ None
-none-is None h = refl
-none-is (Some x) h = absurd cc
-
 first-and : (a b : Bool) → (a && b) ≡ true → a ≡ true
 first-and true b h = refl
 first-and false b h = absurd cc
@@ -226,26 +220,21 @@ last-and : (a b : Bool) → (a && b) ≡ true → b ≡ true
 last-and true b h = h
 last-and false b h = absurd cc
 
--- the queue is open
-pub open-now : (p : Parts) (c w : ℕ) (q : QueueId) → Stands p → MayAsk p.declarations p.history.past c (Ask.Send w q None) → closed p.declarations p.history.past q.0 ≡ None
-open-now p c w q s may =
-    closed-declared p.declarations p.history.past q.0 s.served
-    ∙ none-is (closed p.declarations [] q.0) may.served
+-- it is refused for its word, and then for its queue
+pub word-refused : (p : Parts) (c w : ℕ) (q : QueueId) (f : Fault) → rule p.history.past c w ≡ Some f → refusal p.declarations p.history.past c (Ask.Send w q None) ≡ Some f
+word-refused p c w q f spent = ap (λ (r : Option Fault). option_or r (closed_fault p.declarations p.history.past q.0)) spent
 
-pub send-refusal : (p : Parts) (c w : ℕ) (q : QueueId) (o : Option Fault) → Stands p → MayAsk p.declarations p.history.past c (Ask.Send w q None) → rule p.history.past c w ≡ o
+pub send-refusal : (p : Parts) (c w : ℕ) (q : QueueId) (o : Option Fault) → rule p.history.past c w ≡ None → o ≡ closed_fault p.declarations p.history.past q.0
     → refusal p.declarations p.history.past c (Ask.Send w q None) ≡ o
-send-refusal p c w q None s may ok =
-    ap (λ (f : Option Fault). option_or f (closed_fault p.declarations p.history.past q.0)) ok
-    ∙ ap (option_map (λ (why : ℕ). Fault.QueueClosed why)) (open-now p c w q s may)
-send-refusal p c w q (Some f) s may ok = ap (λ (f : Option Fault). option_or f (closed_fault p.declarations p.history.past q.0)) ok
+send-refusal p c w q o ok is = ap (λ (r : Option Fault). option_or r (closed_fault p.declarations p.history.past q.0)) ok ∙ sym is
 
 pub send-asked : (p : Parts) (c w : ℕ) (q : QueueId) → Stands p → MayAsk p.declarations p.history.past c (Ask.Send w q None) → rule p.history.past c w ≡ None
-    → IsAsked p c (Ask.Send w q None) (send_of w q (open_number p.history.past c))
-send-asked p c w q s may ok =
+    → None ≡ closed_fault p.declarations p.history.past q.0 → IsAsked p c (Ask.Send w q None) (send_of w q (open_number p.history.past c))
+send-asked p c w q s may ok accepted =
     record {
       core = may.core;
       may = may.may;
-      gives = own-lead p.declarations p.history.past c (Ask.Send w q None) (send-refusal p c w q None s may ok);
+      gives = own-lead p.declarations p.history.past c (Ask.Send w q None) (send-refusal p c w q None ok accepted);
       enough = may.enough;
       mild = record {
         context = λ o. refl;
@@ -253,6 +242,7 @@ send-asked p c w q s may ok =
         begun = λ n c o. refl;
         started = λ n. refl;
         pays = omega arith;
+        operations = refl;
       };
     }
 
@@ -269,12 +259,12 @@ pub record AreSent (p q : Parts) (c w : ℕ) (to : QueueId) (way : Way) : Type 0
   pub order_shape : shape q.orders ≡ shape p.orders
 
 send-stands : (p q : Parts) (c w : ℕ) (to : QueueId) (way : Way) (o : IsOurs p.declarations p.history.past w) → Stands p → MayAsk p.declarations p.history.past c (Ask.Send w to None)
-    → rule p.history.past c w ≡ None → index_of w < event_total p.declarations.pools → to.0 < length p.declarations.queues → AreSent p q c w to way
+    → rule p.history.past c w ≡ None → None ≡ closed_fault p.declarations p.history.past to.0 → index_of w < event_total p.declarations.pools → to.0 < length p.declarations.queues → AreSent p q c w to way
     → Releasing (record p { history = pushed p c (send_of w to (open_number p.history.past c)); pools = q.pools; orders = q.orders }) c (sent_acts way (send_act p.declarations o.minter.event c w to)) 0
-send-stands p q c w to way ours s may ok inside queue a =
+send-stands p q c w to way ours s may ok accepted inside queue a =
     let n = open_number p.history.past c in
     asked-begun p (record q { queues = p.queues; atomics = p.atomics; groups = p.groups; kept = p.kept }) c (Ask.Send w to None) (send_of w to n) (sent_acts way (send_act p.declarations ours.minter.event c w to)) [] 0 s
-    (send-asked p c w to s may ok) may.served
+    (send-asked p c w to s may ok accepted) may.served
     (send-cause p.declarations p.history.past c w to n way ours.minter ours.minting a.goes) (core-of way)
     (subst (λ (how : Spend). pools.Stands q.pools (Spent c w how (length p.history.past) ∷ steps_of p)) (sym (how-of way a.goes)) a.pools) a.pool_shape (let same = a.spare in omega (arith, same))
     (settled-queues p 0 s) refl s.atomics (groups-kept p.declarations p.groups p.history.past c (send_of w to n) refl s.groups)
@@ -298,14 +288,14 @@ send-stands p q c w to way ours s may ok inside queue a =
     how-of (Way.Held n) off = rw off refl
 
 pub send-begun : (p q : Parts) (c w : ℕ) (to : QueueId) (way : Way) (e : Event) → Stands p → MayAsk p.declarations p.history.past c (Ask.Send w to None) → rule p.history.past c w ≡ None
-    → index_of w < event_total p.pools.pools → to.0 < length p.declarations.queues → event_at p.pools (index_of w) ≡ Some e → AreSent p q c w to way
+    → None ≡ closed_fault p.declarations p.history.past to.0 → index_of w < event_total p.pools.pools → to.0 < length p.declarations.queues → event_at p.pools (index_of w) ≡ Some e → AreSent p q c w to way
     → Releasing (record p { history = pushed p c (send_of w to (open_number p.history.past c)); pools = q.pools; orders = q.orders }) c (sent_acts way (send_act p.declarations e c w to)) 0
-send-begun p q c w to way e s may ok within queue event a =
+send-begun p q c w to way e s may ok accepted within queue event a =
     let ours = is-ours p c w s ok in
     let inside : index_of w < event_total p.declarations.pools = subst (λ ps. index_of w < event_total ps) s.pool_shape within in
     let same : ours.minter.event ≡ e = some-inj _ _ (sym (event-is p w s ours) ∙ event) in
     subst (λ (e : Event). Releasing (record p { history = pushed p c (send_of w to (open_number p.history.past c)); pools = q.pools; orders = q.orders }) c (sent_acts way (send_act p.declarations e c w to)) 0) same
-    (send-stands p q c w to way ours s may ok inside queue a)
+    (send-stands p q c w to way ours s may ok accepted inside queue a)
 
 -- the queue is declared
 pub declared-by : (k : Declarations) (past : Past) (c w : ℕ) (q : QueueId) (g : Option EventGroupId) → IsTrue (may_ask k past c (Ask.Send w q g)) → q.0 < length k.queues

@@ -32,6 +32,7 @@ use Rattle.em_context_parts.specs.EgroupSteps.{touches_egroups}
 use Rattle.em_context_parts.specs.OrderSteps.{touches_orders}
 use Rattle.em_context_parts.specs.AtomicSteps.{atomic_steps}
 use Rattle.em_context_parts.proofs.Untouched.{atomics-untouched}
+use Rattle.em_operations.specs.Operations.{OperationsStand, touches}
 use Rattle.em_desk.specs.declared.acts.Act.{Act}
 use Rattle.em_desk.specs.declared.parts.Parts.{Parts}
 use Rattle.em_desk.specs.Acts.{said_then, pool_acts, queue_acts, MaySay, AreReady}
@@ -116,10 +117,11 @@ pub record IsMoved (p q : Parts) (c : ℕ) (w : What) (acts : List Act) : Type 0
 pub told : (p q : Parts) (c : ℕ) (w : What) (acts next : List Act) (rest left : List What) (n : ℕ) → IsTold w → Ending p c acts rest n → c < p.declarations.cores
     → due p.declarations p.history.past ≡ entry_by c w ∷ entries_by c (said_then next left)
     → tail_of p.declarations p.history.past (entry_by c w ∷ p.history.past) c w ≡ [] → IsMoved p q c w next
-    → Ending (record p { history = record p.history { past = entry_by c w ∷ p.history.past }; pools = q.pools; queues = q.queues }) c next left n
-told p q c w acts next rest left n t s core first none m =
+    → OperationsStand p.declarations q.operations (entry_by c w ∷ p.history.past)
+    → Ending (record p { history = record p.history { past = entry_by c w ∷ p.history.past }; pools = q.pools; queues = q.queues; operations = q.operations }) c next left n
+told p q c w acts next rest left n t s core first none m operations =
     record {
-      fixed = record { graph = s.fixed.graph; limits = s.fixed.limits; cores = s.fixed.cores; allowed = s.fixed.allowed };
+      fixed = record { graph = s.fixed.graph; limits = s.fixed.limits };
       all = told-all k p.limits past c w _ core s.all first;
       served = (t.served k, s.served);
       core = core-tail k c next left core;
@@ -135,6 +137,7 @@ told p q c w acts next rest left n t s core first none m =
       atomics = subst (AtomicsStand k p.atomics) (sym (atomics-untouched k past c w (atomic_steps k past) t.atomics)) s.atomics;
       groups = groups-kept k p.groups past c w t.groups s.groups;
       orders = orders-kept k p.orders past c w n t.orders s.orders;
+      operations = operations;
       ready = m.ready;
       kept = kept-same k past (e ∷ past) p.kept (t.kept k past c) s.kept;
       cores = s.cores;
@@ -163,6 +166,7 @@ told p q c w acts next rest left n t s core first none m =
 -- what an act tells moves nothing
 pub record IsToldByAct (w : What) : Type 0 where
   pub told : IsTold w
+  pub operations : touches w ≡ false
   pub pools : (k : Declarations) (past : Past) (c : ℕ) → pool_steps k (entry_by c w ∷ past) ≡ pool_steps k past
   pub queues : (k : Declarations) (past : Past) (c : ℕ) → queue_steps k (entry_by c w ∷ past) ≡ queue_steps k past
   pub ends : (k : Declarations) (past now : Past) (c : ℕ) → tail_of k past now c w ≡ []
@@ -210,6 +214,6 @@ notify-told g a = record {
 }
 
 pub act-told : (w : What) → MaySay (Some w) → IsToldByAct w
-act-told (What.Out q kind words) may = record { told = out-told q kind words; pools = λ k past c. refl; queues = λ k past c. refl; ends = λ k past now c. refl }
-act-told (What.Fault Call.Note (Fault.NoteLost q) None) may = record { told = lost-told q; pools = λ k past c. refl; queues = λ k past c. refl; ends = λ k past now c. refl }
+act-told (What.Out q kind words) may = record { told = out-told q kind words; operations = refl; pools = λ k past c. refl; queues = λ k past c. refl; ends = λ k past now c. refl }
+act-told (What.Fault Call.Note (Fault.NoteLost q) None) may = record { told = lost-told q; operations = refl; pools = λ k past c. refl; queues = λ k past c. refl; ends = λ k past now c. refl }
 act-told w may = absurd may

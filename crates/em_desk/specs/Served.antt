@@ -1,6 +1,5 @@
 -- The asks that the desk serves, and the histories of such asks alone.
-use Rattle.std.specs.Prelude.{ℕ, Bool, true, false, List, [], ◌∷◌, Option, Some, None, is_none, IsTrue}
-use Rattle.std.specs.List.{list_all}
+use Rattle.std.specs.Prelude.{Bool, true, false, List, [], ◌∷◌, Option, Some, None, IsTrue}
 use Rattle.std.specs.Option.{option_map, option_map_or}
 use Rattle.em_log.specs.declared.declarations.Declarations.{Declarations}
 use Rattle.em_log.specs.declared.ask.Ask.{Ask}
@@ -8,26 +7,23 @@ use Rattle.em_log.specs.declared.entry.Begun.{Begun}
 use Rattle.em_log.specs.declared.entry.What.{What}
 use Rattle.em_log.specs.declared.ids.Note.{Note}
 use Rattle.em_log.specs.History.{Past}
-use Rattle.em_log.specs.States.{closed}
-
--- whether the desk serves sends to the queue: it is open as it is declared
-abbrev pub serves_queue : Declarations → ℕ → Bool
-serves_queue k q = is_none (closed k [] q)
 
 -- whether the desk serves the ask
 abbrev pub served : Declarations → Ask → Bool
 served k (Ask.Alloc p kind words) = true
 served k (Ask.Free w) = true
-served k (Ask.Send w q None) = serves_queue k q.0
+served k (Ask.Send w q None) = true
 served k (Ask.Keep w) = true
 served k Ask.Claim = true
 served k (Ask.Dequeue q) = true
 served k Ask.Cell = true
 served k (Ask.Say v) = true
+served k (Ask.Enable q) = true
+served k (Ask.Disable q) = true
 served k (Ask.EndAtomic cells) = true
 served k Ask.EndOrdered = true
 served k Ask.EndGroup = true
-served k (Ask.Apply g n notes) = list_all (λ n. serves_queue k n.queue.0) notes
+served k (Ask.Apply g n notes) = true
 served k (Ask.Increment n) = true
 served k (Ask.Abort g) = true
 served k (Ask.End cells) = true

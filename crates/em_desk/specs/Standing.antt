@@ -29,7 +29,7 @@ use Rattle.em_desk.specs.Lines.{LinesState, list_at}
 use Rattle.em_desk.specs.Openings.{opening_at, opening_of}
 use Rattle.em_bounds.specs.Room.{needed, lefts}
 use Rattle.em_bounds.specs.Bound.{AllAfforded}
-use Rattle.em_desk.specs.Choices.{AreAllowed}
+use Rattle.em_operations.specs.Operations.{OperationsStand}
 
 -- a core that has something to do or to tell is one of the graph
 abbrev pub IsCore : Declarations → ℕ → List Act → List What → Type 0
@@ -41,8 +41,6 @@ IsCore k c (a ∷ acts) rest = c < k.cores
 pub record IsFixed (p : Parts) : Type 0 where
   pub graph : AreInBounds p.declarations
   pub limits : AreInRange p.limits
-  pub cores : length p.allowed.items ≡ p.declarations.cores
-  pub allowed : AreAllowed p.declarations p.allowed.items
 
 -- no index stands twice
 abbrev pub NoneTwice : List ℕ → Type 0
@@ -78,6 +76,7 @@ pub record Ending (p : Parts) (c : ℕ) (acts : List Act) (rest : List What) (n 
   pub atomics : AtomicsStand p.declarations p.atomics (atomic_steps p.declarations p.history.past)
   pub groups : GroupsStand p.declarations p.groups p.history.past
   pub orders : OrdersStand p.declarations p.orders p.history.past n
+  pub operations : OperationsStand p.declarations p.operations p.history.past
   pub ready : AreReady p.declarations pool queue acts
   pub kept : AreKept p.declarations p.history.past p.kept
   pub cores : length p.contexts.items ≡ p.declarations.cores

@@ -3,7 +3,9 @@ ghost use Rattle.std.specs.Prelude.{◌≡◌, ◌≤◌, None, Some};
 ghost use Rattle.em_log.specs.Leads.{lead, refusal, call_of};
 ghost use Rattle.em_log.specs.Allowance.{cost_of_ask};
 ghost use Rattle.em_log.specs.declared.ask.Ask.{Ask as TheAsk};
+ghost use Rattle.em_log.specs.declared.ids.QueueId.{QueueId as TheQueueId};
 ghost use Rattle.em_desk.specs.State.{MayAsk, Adds};
+ghost use Rattle.em_operations.specs.Operations.{flag_ask, flag_entry as flag_entry_of};
 ghost use Rattle.em_desk.specs.Standing.{Stands};
 
 use crate::acts::sending;
@@ -15,6 +17,24 @@ use crate::tickets::{open_number, spending};
 use em_log::{Ask, Call, Cells, CoreId, Event, Fault, Handle, PoolId, QueueId, What, Words};
 use em_order::{Item, Way};
 use em_pool::Spend;
+
+/// The call that changes a flag.
+fn flag_call(on: bool) -> Call
+    ensures { (q : TheQueueId) → result ≡ call_of (flag_ask q on) }
+{
+    if on { Call::Enable } else { Call::Disable }
+}
+
+/// The entry of such a call.
+fn flag_entry(queue: QueueId, on: bool) -> What
+    ensures { result ≡ flag_entry_of queue on }
+{
+    if on {
+        What::Enable(queue)
+    } else {
+        What::Disable(queue)
+    }
+}
 
 impl Parts {
     /// An ask of the core's open context, which the desk serves.
@@ -41,6 +61,8 @@ impl Parts {
             Ask::Increment(n) => self.increment(core, n),
             Ask::Abort(group) => self.abort(core, group),
             Ask::EndGroup => self.end_group(core),
+            Ask::Enable(queue) => self.flag(core, queue, true),
+            Ask::Disable(queue) => self.flag(core, queue, false),
             Ask::EndAtomic(cells) => self.end_atomic(core, cells),
             Ask::EndOrdered => self.end_ordered(core),
             Ask::End(cells) => self.end(core, cells),
@@ -111,6 +133,9 @@ impl Parts {
         ensures adds { Adds self.old self.new core.0 (lead self.old.declarations self.old.history.past core.0 (TheAsk.Send word queue None)) result }
     {
         if let Err(fault) = self.pools.rule(core, word) {
+            return self.refuse(core, Call::Send, fault);
+        }
+        if let Some(fault) = self.operations.closed_fault(queue) {
             return self.refuse(core, Call::Send, fault);
         }
         let place = self.history.place();
@@ -216,6 +241,20 @@ impl Parts {
         ensures adds { Adds self.old self.new core.0 (lead self.old.declarations self.old.history.past core.0 (TheAsk.Say value)) result }
     {
         self.history.push(core, What::Say(value));
+        Outcome::Done
+    }
+
+    /// Enables or disables the queue: while it is disabled it takes no sends and delivers nothing, and keeps what waits there.
+    fn flag(&mut self, core: CoreId, queue: QueueId, on: bool) -> Outcome
+        requires stands { Stands self.old }
+        requires may { MayAsk self.old.declarations self.old.history.past core.0 (flag_ask queue on) }
+        ensures stands { Stands self.new }
+        ensures adds { Adds self.old self.new core.0 (lead self.old.declarations self.old.history.past core.0 (flag_ask queue on)) result }
+    {
+        if let Err(fault) = self.operations.flag(queue, on) {
+            return self.refuse(core, flag_call(on), fault);
+        }
+        self.history.push(core, flag_entry(queue, on));
         Outcome::Done
     }
 

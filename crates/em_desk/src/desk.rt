@@ -16,7 +16,6 @@ ghost use Rattle.em_desk.specs.Served.{served, AllServed};
 ghost use Rattle.em_desk.specs.State.{DeskState, IsSameRun, IsWaited, IsAnswered};
 
 use crate::atomic_queues::AtomicQueues;
-use crate::choices::allowed;
 use crate::entries::{received, rest, told};
 use crate::history::History;
 use crate::lines::Lines;
@@ -27,6 +26,7 @@ use crate::shapes::{event_count, object_of};
 use crate::takes::Received;
 use em_egroups::EventGroups;
 use em_log::{Ask, Config, CoreId, EndKind, Entry, Limits, Locals, NoMemory, Reply, declare};
+use em_operations::Operations;
 use em_order::Orders;
 use em_pool::Pools;
 use em_queues::Queues;
@@ -60,12 +60,12 @@ impl Desk {
         ensures { IfOk result (λ d. d ≡ record { declarations = declarations_of config.now; limits = limits; past = []; halted = false }) }
     {
         let declarations = declare(alloc, config)?;
-        let allowed = allowed(alloc, &declarations)?;
         let pools = Pools::build(alloc, config)?;
         let queues = Queues::build(alloc, config)?;
         let atomics = AtomicQueues::build(alloc, config, &declarations)?;
         let groups = EventGroups::build(alloc, config)?;
         let orders = Orders::build(alloc, config)?;
+        let operations = Operations::build(alloc, config, &declarations)?;
         let events = event_count(&declarations);
         let kept = Lines::build(alloc, declarations.running.as_slice().len() as u16, events)?;
         let contexts = closed(alloc, declarations.cores)?;
@@ -73,13 +73,13 @@ impl Desk {
             parts: Parts {
                 declarations,
                 limits,
-                allowed,
                 history: History::new(alloc),
                 pools,
                 queues,
                 atomics,
                 groups,
                 orders,
+                operations,
                 kept,
                 contexts,
                 started: 0,

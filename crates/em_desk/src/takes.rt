@@ -105,7 +105,7 @@ impl Parts {
         if self.started == self.limits.receives {
             return None;
         }
-        let may = self.allowed[usize::from(core.0)].without(&self.atomics.held);
+        let may = self.operations.may_take(core).without(&self.atomics.held);
         self.queues.best(core, &may)
     }
 
@@ -117,7 +117,8 @@ impl Parts {
         if self.history.is_empty() || !are_closed(self.contexts.as_slice()) {
             return None;
         }
-        if !any_ready(&self.queues, self.allowed.as_slice(), &self.atomics.held) {
+        let cores = self.declarations.cores;
+        if !any_ready(&self.queues, &self.operations, &self.atomics.held, cores) {
             return Some(EndKind::Quiet);
         }
         if self.started == self.limits.receives {

@@ -9,7 +9,6 @@ pub mod Everywhere
 pub mod OrderUsed
 pub mod RunnableParts
 pub mod RunnableErrors
-pub mod OpenQueues
 pub mod Served
 pub mod Took
 pub mod Taking

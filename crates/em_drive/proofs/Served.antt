@@ -18,10 +18,9 @@ use Rattle.em_body.specs.Everywhere.{everywhere_in}
 use Rattle.em_body.specs.Standings.{body_of, error_body_of, entry_of, does_ask}
 use Rattle.em_body.proofs.AsksOfStatements.{asks-are}
 use Rattle.em_log.specs.Declarations.{declarations_of}
-use Rattle.em_desk.specs.Served.{served, serves_queue}
+use Rattle.em_desk.specs.Served.{served}
 use Rattle.em_drive.specs.Runnable.{is_runnable, is_runnable_object, is_runnable_statement}
 use Rattle.em_drive.specs.Servable.{IsServable}
-use Rattle.em_drive.proofs.OpenQueues.{sends-served}
 use Rattle.em_drive.proofs.RunnableErrors.{runnable-error}
 use Rattle.em_drive.proofs.RunnableParts.{all-get, runnable-parts, object-parts}
 
@@ -97,32 +96,26 @@ runnable-bodies g well h (Context.GlobalStop op x) = for-declared g well h x.0 (
 
 -- ---- what a statement that runs asks is served
 
--- all notes are
-notes-served : (g : Config) → IsWellFormed g → IsTrue (is_runnable g) → (ns : List Note) → list_all (λ n. serves_queue (declarations_of g) n.queue.0) ns ≡ true
-notes-served g well runs [] = refl
-notes-served g well runs (n ∷ ns) =
-    let here = sends-served g well runs n.queue.0 in
-    let rest = notes-served g well runs ns in
-    rw (here, rest) refl
-
-pub runnable-served : (g : Config) → IsWellFormed g → IsTrue (is_runnable g) → (s : Stmt) (v : Env) → IsTrue (is_runnable_statement s) → IsTrue (does_ask s v)
+pub runnable-served : (g : Config) (s : Stmt) (v : Env) → IsTrue (is_runnable_statement s) → IsTrue (does_ask s v)
     → IsTrue (served (declarations_of g) (ask_of s v))
-runnable-served g well runs (Stmt.CellWrite c e) v h asks = refl
-runnable-served g well runs (Stmt.Say e) v h asks = refl
-runnable-served g well runs (Stmt.Alloc i p e ws) v h asks = refl
-runnable-served g well runs (Stmt.Free e) v h asks = refl
-runnable-served g well runs (Stmt.Keep e) v h asks = refl
-runnable-served g well runs (Stmt.Send e q) v h asks = sends-served g well runs q.0
-runnable-served g well runs (Stmt.Claim i) v h asks = refl
-runnable-served g well runs (Stmt.Dequeue i q) v h asks = refl
-runnable-served g well runs Stmt.EndAtomic v h asks = refl
-runnable-served g well runs Stmt.EndOrdered v h asks = refl
-runnable-served g well runs Stmt.EndGroup v h asks = refl
-runnable-served g well runs (Stmt.Apply i e ns) v h asks = notes-served g well runs (notes_in ns v)
-runnable-served g well runs (Stmt.Increment e) v h asks = refl
-runnable-served g well runs (Stmt.Abort i) v h asks = refl
-runnable-served g well runs (Stmt.Set i e) v h asks = absurd cc
-runnable-served g well runs s v h asks = absurd cc
+runnable-served g (Stmt.CellWrite c e) v h asks = refl
+runnable-served g (Stmt.Say e) v h asks = refl
+runnable-served g (Stmt.Alloc i p e ws) v h asks = refl
+runnable-served g (Stmt.Free e) v h asks = refl
+runnable-served g (Stmt.Keep e) v h asks = refl
+runnable-served g (Stmt.Send e q) v h asks = refl
+runnable-served g (Stmt.Claim i) v h asks = refl
+runnable-served g (Stmt.Dequeue i q) v h asks = refl
+runnable-served g (Stmt.Enable q) v h asks = refl
+runnable-served g (Stmt.Disable q) v h asks = refl
+runnable-served g Stmt.EndAtomic v h asks = refl
+runnable-served g Stmt.EndOrdered v h asks = refl
+runnable-served g Stmt.EndGroup v h asks = refl
+runnable-served g (Stmt.Apply i e ns) v h asks = refl
+runnable-served g (Stmt.Increment e) v h asks = refl
+runnable-served g (Stmt.Abort i) v h asks = refl
+runnable-served g (Stmt.Set i e) v h asks = absurd cc
+runnable-served g s v h asks = absurd cc
 
 -- ---- the whole
 
@@ -131,5 +124,5 @@ runnable-servable g well h =
     record {
       asks = λ c context es now a reached asks.
           let of = asks-are is_runnable_statement (record { graph = g; core = c }) context es now reached (runnable-bodies g well h context) (runnable-error g h context) a asks in
-          subst (λ (a : Ask). IsTrue (served (declarations_of g) a)) (sym of.is) (runnable-served g well h of.statement now.env of.passes of.asks);
+          subst (λ (a : Ask). IsTrue (served (declarations_of g) a)) (sym of.is) (runnable-served g of.statement now.env of.passes of.asks);
     }

@@ -29,6 +29,8 @@ fn is_runnable_statement(statement: &Stmt) -> bool
         | Stmt::Send { .. }
         | Stmt::Claim { .. }
         | Stmt::Dequeue { .. }
+        | Stmt::Enable(_)
+        | Stmt::Disable(_)
         | Stmt::EndAtomic
         | Stmt::EndOrdered
         | Stmt::EndGroup

@@ -27,10 +27,19 @@ const GIVEN_UP: Row = (
     "trace 1\n0 c0 enter boot\n1 c0 fault abort 11 1 global\n2 c0 fault increment 9 0 global\n3 c0 fault endgroup 9 0 global\n4 c0 fault apply 18 0 global\n5 c0 fault apply 18 0 global\n6 c0 alloc p0 65536 kind 9 words 0\n7 c0 alloc p0 65537 kind 8 words 0\n8 c0 fault apply 2 8 global\n9 c0 apply e1 1 2 notes 2 65536 q1 65537 q0\n10 c0 fault apply 10 2 global\n11 c0 apply e0 1 4294967295 notes 0\n12 c0 fault free 2 9 global\n13 c0 abort e1\n14 c0 alloc p0 131072 kind 7 words 0\n15 c0 fault abort 11 1 global\n16 c0 send 131072 q0\n17 c0 end lost 0\n18 c0 take q0 1\n19 c0 start q0 196608 kind 7 words 0\n20 c0 fault increment 9 0 o0\n21 c0 fault endgroup 9 0 o0\n22 c0 abort e0\n23 c0 free 196608\n24 c0 end lost 0\nquiet\n",
 );
 
-const RUNS: [Row; 10] = [
+/// A queue takes no sends while it is disabled.
+const DISABLED_AND_ENABLED: Row = (
+    "solo 10 1 0",
+    "cores 1\npool p 4 1\neo x running\nqueue q parallel x normal all\nboot\nalloc v0 p 0\ndisable q\nsend v0 q\nenable q\nsend v0 q\nend\nbody x receive\nfree me\nend\ndone\n",
+    0,
+    "trace 1\n0 c0 enter boot\n1 c0 alloc p0 65536 kind 0 words 0\n2 c0 disable q0\n3 c0 fault send 5 4 global\n4 c0 enable q0\n5 c0 send 65536 q0\n6 c0 end lost 0\n7 c0 take q0 1\n8 c0 start q0 131072 kind 0 words 0\n9 c0 free 131072\n10 c0 end lost 0\nquiet\n",
+);
+
+const RUNS: [Row; 11] = [
     HELD_BY_ANOTHER_CORE,
     CELL_AND_DEQUEUE_REFUSED,
     GIVEN_UP,
+    DISABLED_AND_ENABLED,
     (
         "solo 10 1 0",
         "cores 1\npool p 1 0\neo x running\nqueue l local x normal\nqueue u unscheduled\nboot\nalloc v0 p 4\nsend v0 l\nend\nbody x receive\nkeep me\nclaim v0\ndequeue v1 u\nfree v0\nfree me\nend\ndone\n",

@@ -29,15 +29,13 @@ invariant_of-result c =
     (record {
       graph = subst AreInBounds (sym is) c.requires.graph;
       limits = c.requires.limits;
-      cores = c.in_ok-allowed.ensures.count;
-      allowed = c.in_ok-allowed.ensures.allowed;
     })
     c.new.ensures c.in_ok-pools.ensures.stands
     (ap (λ (p : PoolState). p.pools) c.in_ok-pools.ensures.value ∙ sym (ap (λ (k : Declarations). k.pools) is))
     (subst (λ (k : Declarations). queues.Stands k c.in_ok-queues.queues []) (sym is) c.in_ok-queues.ensures.stands)
     (c.in_ok-queues.ensures.shape ∙ (shape-declared c.args.config.now ∙ ap shape_of (sym is))) c.in_ok-atomics.ensures
     (record { steps = c.in_ok-groups.ensures.stands; count = c.in_ok-groups.ensures.len ∙ sym (ap (λ (k : Declarations). k.egroups) is) }) c.in_ok-orders.ensures.stands
-    (c.in_ok-orders.ensures.shape ∙ (orders-declared c.args.config.now ∙ ap order_shape (sym is)))
+    (c.in_ok-orders.ensures.shape ∙ (orders-declared c.args.config.now ∙ ap order_shape (sym is))) c.in_ok-operations.ensures
     (c.in_ok-kept.ensures.lists ∙ ap (λ (rs : List Bool). empty_lists (length rs)) c.as_slice.ensures)
     (c.in_ok-kept.ensures.room ∙ c.event_count-events.ensures)
     c.in_ok-contexts.ensures refl

@@ -1,4 +1,4 @@
-use Rattle.std.proofs.Common.{◌≡◌, ◌≢◌, ◌∙◌, ◌&&◌, not, ◌<◌, ℕ, length, get_or, true, false, Option, Some, None, subst, arith}
+use Rattle.std.proofs.Common.{◌≡◌, ◌≢◌, ◌∙◌, ◌&&◌, not, ℕ, true, false, Option, Some, None}
 use Rattle.std.specs.Option.{MatchOption}
 use Rattle.em_log.specs.declared.ids.QueueId.{QueueId}
 use Rattle.em_log.specs.Eligible.{is_choice}
@@ -29,10 +29,10 @@ returns c =
     let p = c.args.self.now in
     let n = c.args.core.0 in
     let s = c.requires.stands in
-    let core = c.requires.core in
-    let cores = s.fixed.cores in
-    let within : n < length p.allowed.items = omega (arith, core, cores) in
-    let is : c.index.result.now ≡ get_or p.allowed.items n c.index.result.now = subst (λ (i : ℕ). c.index.result.now ≡ get_or p.allowed.items i c.index.result.now) c.from.ensures c.index.ensures in
     chosen p n c.without-may.result c.best.result s (record { over = c.requires.over; closed = c.requires.closed }) c.if-self.false
-    (λ q. c.without-may.ensures q ∙ (λ i. s.fixed.allowed n q c.index.result.now within is i && not (s.atomics.held q i)))
+    (λ q. c.without-may.ensures q ∙ (λ i. c.may_take.ensures p.declarations p.limits p.history.past s.all s.operations q i && not (s.atomics.held q i)))
     (c.best.ensures p.declarations (queue_steps p.declarations p.history.past) (settled-queues p 0 s))
+
+pub may_take-requires : goal.may_take-requires
+may_take-requires c =
+    record { graph = c.args.self.now.declarations; past = c.args.self.now.history.past; stands = c.requires.stands.operations; core = c.requires.core }

@@ -1,14 +1,14 @@
-use Rattle.std.proofs.Common.{◌≡◌, ◌≢◌, ◌∙◌, ℕ, ◌<◌, ◌==◌, Bool, not, ◌&&◌, [], List, length, true, false, get_or, ap, sym, subst, arith, refl}
+use Rattle.std.proofs.Common.{◌≡◌, ◌≢◌, ◌∙◌, ℕ, ◌==◌, Bool, not, ◌&&◌, [], List, length, true, false, ap, sym, subst, arith, refl}
 use Rattle.std.specs.List.{list_all}
 use Rattle.em_log.specs.Contexts.{boot_ended}
 use Rattle.em_log.specs.Eligible.{is_idle, is_wanted}
 use Rattle.em_log.specs.Places.{started}
 use Rattle.em_parts.specs.QueueSteps.{queue_steps}
-use Rattle.em_queues.specs.declared.set.QueueSet.{QueueSet}
 use Rattle.em_queues.specs.Sets.{contains}
 use Rattle.em_laws.proofs.Cores.{Compared, Same, Other, compared}
 use Rattle.em_desk.specs.declared.opening.Opening.{Opening}
 use Rattle.em_desk.specs.declared.parts.Parts.{Parts}
+use Rattle.em_operations.specs.Operations.{may_take}
 use Rattle.em_desk.specs.Choices.{IsAnyReady}
 use Rattle.em_desk.specs.Openings.{opening_at, is_boot, is_closed}
 use Rattle.em_desk.specs.Standing.{Stands}
@@ -42,24 +42,19 @@ is-over p s some all =
     record { over = over; idle = idle-is p s over all }
 
 -- some core could be served
-wanted : (p : Parts) (r : Bool) (sets : List QueueSet) → Stands p → Over p → list_all is_closed p.contexts.items ≡ true → IsAnyReady r p.queues sets p.atomics.held → r ≡ true → sets ≡ p.allowed.items
+wanted : (p : Parts) (r : Bool) → Stands p → Over p → list_all is_closed p.contexts.items ≡ true → IsAnyReady r p.declarations.cores p.queues p.operations p.atomics.held → r ≡ true
     → is_wanted p.declarations p.history.past ≡ true
-wanted p false sets s v all any told same = absurd (cc told)
-wanted p true sets s v all any told same =
-    let can = any p.declarations (queue_steps p.declarations p.history.past) (settled-queues p 0 s) in
-    let cores = s.fixed.cores in
-    let inside = can.within in
-    let there : can.core < length p.allowed.items = subst (λ (xs : List QueueSet). can.core < length xs) same inside in
-    let lt : can.core < p.declarations.cores = omega (arith, cores, there) in
-    let set : can.set ≡ get_or p.allowed.items can.core can.set = subst (λ (xs : List QueueSet). can.set ≡ get_or xs can.core can.set) same can.is in
-    let on = serve-by p can.core can.queue (contains can.set can.queue && not (contains p.atomics.held can.queue)) s (free-at p can.core s v.over all lt)
-    ((λ i. s.fixed.allowed can.core can.queue can.set there set i && not (s.atomics.held can.queue i))) can.ready in
+wanted p false s v all any told = absurd (cc told)
+wanted p true s v all any told =
+    let can = any p.declarations p.limits p.history.past (queue_steps p.declarations p.history.past) refl s.all (settled-queues p 0 s) s.operations in
+    let on = serve-by p can.core can.queue (may_take p.declarations p.history.past can.core can.queue && not (contains p.atomics.held can.queue)) s (free-at p can.core s v.over all can.within)
+    (λ i. may_take p.declarations p.history.past can.core can.queue && not (s.atomics.held can.queue i)) can.ready in
     let r = ready-runs p.declarations p.history.past can.core can.queue on in
-    wanted-is p can.core can.queue lt (declared-queue p.declarations p.history.past can.queue r) on
+    wanted-is p can.core can.queue can.within (declared-queue p.declarations p.history.past can.queue r) on
 
-unwanted : (p : Parts) (r : Bool) (sets : List QueueSet) → Stands p → IsAnyReady r p.queues sets p.atomics.held → r ≡ false → sets ≡ p.allowed.items → is_wanted p.declarations p.history.past ≡ false
-unwanted p true sets s any told same = absurd (cc told)
-unwanted p false sets s any told same = unwanted-is p s (subst (λ (xs : List QueueSet). IsAnyReady false p.queues xs p.atomics.held) same any)
+unwanted : (p : Parts) (r : Bool) → Stands p → IsAnyReady r p.declarations.cores p.queues p.operations p.atomics.held → r ≡ false → is_wanted p.declarations p.history.past ≡ false
+unwanted p true s any told = absurd (cc told)
+unwanted p false s any told = unwanted-is p s any
 
 same-number : (a b : ℕ) → a ≡ b → (a == b) ≡ true
 same-number a b is = by_test (compared a b)
@@ -87,12 +82,17 @@ returns-then-is_empty c =
           (busy-is p c.requires (open-at p c.requires (all-closed p.contexts.items w.as_slice.result.now w.are_closed.result false w.as_slice.ensures.value w.are_closed.ensures w.if-not-are_closed.true))))
     ]
 
+pub any_ready-requires-clause-stands : goal.any_ready-requires-clause-stands
+any_ready-requires-clause-stands c =
+    let p = c.args.self.now in
+    record { graph = p.declarations; past = p.history.past; stands = c.requires.operations; count = refl }
+
 pub returns-then-not-any_ready : goal.returns-then-not-any_ready
 returns-then-not-any_ready c =
     let p = c.args.self.now in
     let all = all-closed p.contexts.items c.as_slice.result.now c.are_closed.result true c.as_slice.ensures.value c.are_closed.ensures c.if-not-are_closed.false in
     let v = is-over p c.requires (sym c.is_empty.ensures ∙ c.if-is_empty.false) all in
-    sym (end-quiet p.declarations p.limits p.history.past v.idle (unwanted p c.any_ready.result c.as_slice-2.result.now c.requires c.any_ready.ensures c.if-not-any_ready.true c.as_slice-2.ensures.value))
+    sym (end-quiet p.declarations p.limits p.history.past v.idle (unwanted p c.any_ready.result c.requires c.any_ready.ensures c.if-not-any_ready.true))
 
 pub returns-then-self : goal.returns-then-self
 returns-then-self c =
@@ -100,7 +100,7 @@ returns-then-self c =
     let all = all-closed p.contexts.items c.as_slice.result.now c.are_closed.result true c.as_slice.ensures.value c.are_closed.ensures c.if-not-are_closed.false in
     let v = is-over p c.requires (sym c.is_empty.ensures ∙ c.if-is_empty.false) all in
     sym (end-limit p.declarations p.limits p.history.past v.idle
-    (wanted p c.any_ready.result c.as_slice-2.result.now c.requires v all c.any_ready.ensures c.if-not-any_ready.false c.as_slice-2.ensures.value)
+    (wanted p c.any_ready.result c.requires v all c.any_ready.ensures c.if-not-any_ready.false)
     (same-number (started p.history.past) p.limits.receives (sym c.requires.started ∙ c.if-self.true)))
 
 pub returns : goal.returns
@@ -109,5 +109,5 @@ returns c =
     let all = all-closed p.contexts.items c.as_slice.result.now c.are_closed.result true c.as_slice.ensures.value c.are_closed.ensures c.if-not-are_closed.false in
     let v = is-over p c.requires (sym c.is_empty.ensures ∙ c.if-is_empty.false) all in
     sym (end-none p.declarations p.limits p.history.past v.idle
-    (wanted p c.any_ready.result c.as_slice-2.result.now c.requires v all c.any_ready.ensures c.if-not-any_ready.false c.as_slice-2.ensures.value)
+    (wanted p c.any_ready.result c.requires v all c.any_ready.ensures c.if-not-any_ready.false)
     (other-number (started p.history.past) p.limits.receives (λ (e : started p.history.past ≡ p.limits.receives). c.if-self.false (c.requires.started ∙ e))))

@@ -1,5 +1,9 @@
 use Rattle.std.proofs.Common.{◌≡◌, ◌∙◌, ◌<◌, [], ◌∷◌, ℕ, List, Option, length, refl, ap, sym, subst, arith, None, Some}
 use Rattle.em_log.specs.declared.ask.Ask.{Ask}
+use Rattle.em_log.specs.declared.declarations.Declarations.{Declarations}
+use Rattle.em_log.specs.declared.fault.Fault.{Fault}
+use Rattle.em_log.specs.Leads.{closed_fault}
+use Rattle.em_operations.specs.Operations.{OperationsStand}
 use Rattle.em_log.specs.declared.entry.Event.{Event}
 use Rattle.em_log.specs.declared.entry.What.{What}
 use Rattle.em_log.specs.declared.ids.QueueId.{QueueId}
@@ -25,16 +29,18 @@ use Rattle.em_desk.specs.Histories.{HistoryState}
 use Rattle.em_desk.specs.Orders.{spend_by}
 use Rattle.em_desk.specs.Standing.{Releasing, Stands}
 use Rattle.em_desk.proofs.Asked.{steps_of, rule-is, adds-none, adds-acts, spent-at}
-use Rattle.em_desk.proofs.Sends.{is-ours, event-is, is-unheld, is_entering, goes, number-open, send_of, sent_acts, send-cause, send-refusal, send-asked, send-begun, queue-declared}
+use Rattle.em_desk.proofs.Sends.{is-ours, event-is, is-unheld, is_entering, goes, number-open, send_of, sent_acts, send-cause, word-refused, send-refusal, send-asked, send-begun, queue-declared}
 use Rattle.em_desk.proofs.Begun.{asked-room, at-rest, pushed}
 use Rattle.em_desk.proofs.parts.Parts.send.Goals as goal
+
+-- a word that may not be used
 
 pub refuse-requires-clause-refused : goal.refuse-requires-clause-refused
 refuse-requires-clause-refused c = (
   Ask.Send c.args.word c.args.queue None,
   c.requires.may,
   omega arith,
-  send-refusal c.args.self.now c.args.core.0 c.args.word c.args.queue (Some c.in-Err.fault) c.requires.stands c.requires.may
+  word-refused c.args.self.now c.args.core.0 c.args.word c.args.queue c.in-Err.fault
       (rule-is c.args.self.now c.args.core.0 c.args.word (Some c.in-Err.fault) c.requires.stands c.in-Err.ensures.answer),
   refl,
 )
@@ -42,8 +48,48 @@ refuse-requires-clause-refused c = (
 pub returns-in-Err-clause-adds : goal.returns-in-Err-clause-adds
 returns-in-Err-clause-adds c =
     c.refuse.ensures.adds (Ask.Send c.args.word c.args.queue None)
-    (send-refusal c.args.self.now c.args.core.0 c.args.word c.args.queue (Some c.in-Err.fault) c.requires.stands c.requires.may
+    (word-refused c.args.self.now c.args.core.0 c.args.word c.args.queue c.in-Err.fault
     (rule-is c.args.self.now c.args.core.0 c.args.word (Some c.in-Err.fault) c.requires.stands c.in-Err.ensures.answer)) refl
+
+-- a queue that is closed
+
+pub closed_fault-requires : goal.closed_fault-requires
+closed_fault-requires c =
+    let p = c.args.self.now in
+    record { graph = p.declarations; past = p.history.past; stands = c.requires.stands.operations; queue = queue-declared p c.args.core.0 c.args.word c.args.queue c.requires.may }
+
+closed-now : (p : Parts) (q : QueueId) (o r : Option Fault) → Stands p → ((k : Declarations) (past : Past) → OperationsStand k p.operations past → o ≡ closed_fault k past q.0)
+    → o ≡ r → r ≡ closed_fault p.declarations p.history.past q.0
+closed-now p q o r s answer is = sym is ∙ answer p.declarations p.history.past s.operations
+
+not-some : (o : Option Fault) → ((f : Fault) → o ≡ Some f → ⊥) → o ≡ None
+not-some None unsome = refl
+not-some (Some f) unsome = absurd (unsome f refl)
+
+pub refuse-requires-in-Some-clause-refused : goal.refuse-requires-in-Some-clause-refused
+refuse-requires-in-Some-clause-refused c =
+    let p = c.args.self.now in (
+      Ask.Send c.args.word c.args.queue None,
+      c.requires.may,
+      omega arith,
+      send-refusal p c.args.core.0 c.args.word c.args.queue (Some c.in-Some.fault) (rule-is p c.args.core.0 c.args.word None c.requires.stands c.in_default.ensures.answer)
+          (closed-now p c.args.queue c.closed_fault.result (Some c.in-Some.fault) c.requires.stands c.closed_fault.ensures c.in-Some.is),
+      refl,
+    )
+
+pub returns-in-Some-clause-adds : goal.returns-in-Some-clause-adds
+returns-in-Some-clause-adds c =
+    let p = c.args.self.now in
+    c.refuse-in-Some.ensures.adds (Ask.Send c.args.word c.args.queue None)
+    (send-refusal p c.args.core.0 c.args.word c.args.queue (Some c.in-Some.fault) (rule-is p c.args.core.0 c.args.word None c.requires.stands c.in_default.ensures.answer)
+    (closed-now p c.args.queue c.closed_fault.result (Some c.in-Some.fault) c.requires.stands c.closed_fault.ensures c.in-Some.is)) refl
+
+-- the queue accepts events
+accepted : (p : Parts) (q : QueueId) (o : Option Fault) → Stands p → ((k : Declarations) (past : Past) → OperationsStand k p.operations past → o ≡ closed_fault k past q.0)
+    → ((f : Fault) → o ≡ Some f → ⊥) → None ≡ closed_fault p.declarations p.history.past q.0
+accepted p q o s answer unsome = closed-now p q o None s answer (not-some o unsome)
+
+-- one that is open
 
 pub send-way-requires : goal.send-way-requires
 send-way-requires c =
@@ -59,30 +105,30 @@ push-requires-clause-room c =
     let p = c.args.self.now in
     (asked-room p c.args.core.0 (Ask.Send c.args.word c.args.queue None) (send_of c.args.word c.args.queue (open_number p.history.past c.args.core.0)) c.requires.stands
     (send-asked p c.args.core.0 c.args.word c.args.queue c.requires.stands c.requires.may
-    (rule-is p c.args.core.0 c.args.word None c.requires.stands c.in_default.ensures.answer))).length
+    (rule-is p c.args.core.0 c.args.word None c.requires.stands c.in_default.ensures.answer) (accepted p c.args.queue c.closed_fault.result c.requires.stands c.closed_fault.ensures c.in_default-closed_fault.not-Some))).length
 
 pub push-requires-clause-paid : goal.push-requires-clause-paid
 push-requires-clause-paid c =
     let p = c.args.self.now in
     (asked-room p c.args.core.0 (Ask.Send c.args.word c.args.queue None) (send_of c.args.word c.args.queue (open_number p.history.past c.args.core.0)) c.requires.stands
     (send-asked p c.args.core.0 c.args.word c.args.queue c.requires.stands c.requires.may
-    (rule-is p c.args.core.0 c.args.word None c.requires.stands c.in_default.ensures.answer))).paid
+    (rule-is p c.args.core.0 c.args.word None c.requires.stands c.in_default.ensures.answer) (accepted p c.args.queue c.closed_fault.result c.requires.stands c.closed_fault.ensures c.in_default-closed_fault.not-Some))).paid
 
 -- the parts after the entry
 stood : (p : Parts) (n w place i : ℕ) (to : QueueId) (way : Way) (how : Spend) (number : Option ℕ) (act : Act) (h : HistoryState) (v : PoolState) (x : OrderState) → Stands p
-    → MayAsk p.declarations p.history.past n (Ask.Send w to None) → rule p.history.past n w ≡ None → index_of w < event_total p.pools.pools
+    → MayAsk p.declarations p.history.past n (Ask.Send w to None) → rule p.history.past n w ≡ None → None ≡ closed_fault p.declarations p.history.past to.0 → index_of w < event_total p.pools.pools
     → enters p.history.past (ticket_of_send p.history.past n (open_number p.history.past n)) ≡ is_entering way
     → ((s : List PoolStep) → pools.Stands p.pools s → pools.Stands v (Spent n w how place ∷ s)) → v ≡ spent p.pools w how place → place ≡ length p.history.past → how ≡ spend_by way to
     → ((s : List OrderStep) → order.Stands p.orders s → order.Stands x (Sent n (record { index = i; queue = to; core = record { 0 = n } }) ∷ s)) → i ≡ index_of w → shape x ≡ shape p.orders
     → ((e : Event) → event_at p.pools (index_of w) ≡ Some e → act ≡ send_act p.declarations e n w to) → h ≡ pushed p n (send_of w to number) → number ≡ open_number p.history.past n
     → Releasing (record p { history = h; pools = v; orders = x }) n (sent_acts way act) 0
-stood p n w place i to way how number act h v x s may ok within on stands value at spends sent index same is pushed_now opened =
+stood p n w place i to way how number act h v x s may ok takes within on stands value at spends sent index same is pushed_now opened =
     let ours = is-ours p n w s ok in
     let event = event-is p w s ours in
     let q : Parts = record p { pools = v; orders = x } in
     subst (λ (h : HistoryState). Releasing (record p { history = h; pools = v; orders = x }) n (sent_acts way act) 0) (sym (pushed_now ∙ ap (λ (m : Option ℕ). pushed p n (send_of w to m)) opened))
     (subst (λ (a : Act). Releasing (record p { history = pushed p n (send_of w to (open_number p.history.past n)); pools = v; orders = x }) n (sent_acts way a) 0) (sym (is ours.minter.event event))
-    (send-begun p q n w to way ours.minter.event s may ok within (queue-declared p n w to may) event
+    (send-begun p q n w to way ours.minter.event s may ok takes within (queue-declared p n w to may) event
     (record {
       goes = on;
       pools = subst (λ (m : Spend). pools.Stands v (Spent n w m (length p.history.past) ∷ steps_of p)) spends (spent-at p q n w place how s stands at);
@@ -103,7 +149,7 @@ returns-in-Held-clause-stands c =
     at-rest _ n
     (stood p n c.args.word c.place-place.result c.index_of-index.result c.args.queue (Way.Held c.in-Held.field-0) c.spending.result c.open_number-ticket.result c.sending-act.result c.push.new.self
     c.spend.new.self c.send-way.new.self s c.requires.may
-    (rule-is p n c.args.word None s c.in_default.ensures.answer) c.in_default.ensures.within
+    (rule-is p n c.args.word None s c.in_default.ensures.answer) (accepted p c.args.queue c.closed_fault.result s c.closed_fault.ensures c.in_default-closed_fault.not-Some) c.in_default.ensures.within
     (goes p n (Ask.Send c.args.word c.args.queue None) c.send-way.result s c.requires.may c.send-way.ensures.answer ∙ way) c.spend.ensures.stands c.spend.ensures.value c.place-place.ensures
     (c.spending.ensures ∙ ap (λ (w : Way). spend_by w c.args.queue) c.in-Held.is) c.send-way.ensures.stands c.index_of-index.ensures c.send-way.ensures.same_shape
     c.sending-act.ensures c.push.ensures (number-open p n c.open_number-ticket.result s c.open_number-ticket.ensures))
@@ -117,7 +163,7 @@ returns-in-Held-clause-adds c =
     let s = c.requires.stands in
     let ok = rule-is p n w None s c.in_default.ensures.answer in
     let ours = is-ours p n w s ok in
-    let e = send-asked p n w q s c.requires.may ok in
+    let e = send-asked p n w q s c.requires.may ok (accepted p q c.closed_fault.result s c.closed_fault.ensures c.in_default-closed_fault.not-Some) in
     let on = goes p n (Ask.Send w q None) c.send-way.result s c.requires.may c.send-way.ensures.answer ∙ ap is_entering c.in-Held.is in
     adds-none p _ n (Ask.Send w q None) (send_of w q (open_number p.history.past n)) _
     (ap (λ (h : HistoryState). h.past) c.push.ensures
@@ -141,7 +187,7 @@ perform-requires c =
       0,
       stood p n c.args.word c.place-place.result c.index_of-index.result c.args.queue Way.Enter c.spending.result c.open_number-ticket.result c.sending-act.result c.push.new.self
           c.spend.new.self c.send-way.new.self s c.requires.may
-          (rule-is p n c.args.word None s c.in_default.ensures.answer) c.in_default.ensures.within
+          (rule-is p n c.args.word None s c.in_default.ensures.answer) (accepted p c.args.queue c.closed_fault.result s c.closed_fault.ensures c.in_default-closed_fault.not-Some) c.in_default.ensures.within
           (goes p n (Ask.Send c.args.word c.args.queue None) c.send-way.result s c.requires.may c.send-way.ensures.answer ∙ ap is_entering way) c.spend.ensures.stands c.spend.ensures.value
           c.place-place.ensures
           (c.spending.ensures ∙ ap (λ (w : Way). spend_by w c.args.queue) way) c.send-way.ensures.stands c.index_of-index.ensures c.send-way.ensures.same_shape
@@ -157,7 +203,7 @@ returns-clause-stands c =
     at-rest c.perform.new.self n (c.perform.ensures.stands [] [] 0
     (stood p n c.args.word c.place-place.result c.index_of-index.result c.args.queue Way.Enter c.spending.result c.open_number-ticket.result c.sending-act.result c.push.new.self
     c.spend.new.self c.send-way.new.self s c.requires.may
-    (rule-is p n c.args.word None s c.in_default.ensures.answer) c.in_default.ensures.within
+    (rule-is p n c.args.word None s c.in_default.ensures.answer) (accepted p c.args.queue c.closed_fault.result s c.closed_fault.ensures c.in_default-closed_fault.not-Some) c.in_default.ensures.within
     (goes p n (Ask.Send c.args.word c.args.queue None) c.send-way.result s c.requires.may c.send-way.ensures.answer ∙ ap is_entering way) c.spend.ensures.stands c.spend.ensures.value
     c.place-place.ensures
     (c.spending.ensures ∙ ap (λ (w : Way). spend_by w c.args.queue) way) c.send-way.ensures.stands c.index_of-index.ensures c.send-way.ensures.same_shape
@@ -178,7 +224,7 @@ returns-clause-adds c =
     let ok = rule-is p n w None s c.in_default.ensures.answer in
     let ours = is-ours p n w s ok in
     let act = c.sending-act.ensures ours.minter.event (event-is p w s ours) in
-    let e = send-asked p n w q s c.requires.may ok in
+    let e = send-asked p n w q s c.requires.may ok (accepted p q c.closed_fault.result s c.closed_fault.ensures c.in_default-closed_fault.not-Some) in
     let number = open_number p.history.past n in
     let now : Past = entry_by n (send_of w q number) ∷ p.history.past in
     let on = goes p n (Ask.Send w q None) c.send-way.result s c.requires.may c.send-way.ensures.answer ∙ ap is_entering (enter-is c.send-way.result c.in_default-way.not-Held) in
