@@ -4,8 +4,8 @@
 # written. The best of some turns, and how many times as long a receive of the longer run takes.
 # Wished: at most 1.2 times. docs/DECISIONS.md says what was seen.
 #
-# With a word it counts the instructions of reading and running the script, without its trace, by valgrind: those of a long run less
-# those of a short one, for each receive between the two.
+# With a word it counts the instructions of the run alone (`solo` of em_drive) by valgrind, those of a long run less those of a
+# short one, for each receive between the two:
 #   bench/runs.sh instructions   a receive that sends its event on to its own queue: in the smallest graph, at 10,000 receives
 #                                against 1,000, with 4,096 live events, 256 queues, 64 objects and 8 cores.
 #                                Wished: at most 1.1 times for the longer run, and 1.2 times for each of the others.
@@ -65,7 +65,7 @@ script_of() {
         # Of two contexts side by side, that of the event of kind $2 sends 60 events, and the other one, or both, say as much.
         printf 'cores 2\npool p 62 0\neo x running\nqueue s ordered x normal all\nqueue o output\n'
         printf 'boot\nalloc v0 p 1\nsend v0 s\nalloc v0 p 2\nsend v0 s\nend\nbody x receive\nif eq kind %s\n' "$2"
-        printf 'repeat 60\nalloc v0 p 3\nsend v0 o\nend\nelse\nrepeat 120\nsay 1\nend\nend\nsend me s\nend\ndone\n'
+        printf 'repeat 60\nalloc v0 p 3\nsend v0 o\nend\nelse\nrepeat 122\nsay 1\nend\nend\nsend me s\nend\ndone\n'
         ;;
     esac
 }
@@ -75,9 +75,10 @@ bin/emrun solo 1 1 0 <"$script" >/dev/null
 [ $? = 3 ] || exit 1
 program=crates/emrun/out/emrun
 
+
 # The instructions of a run of $1 receives, whose cores take turns in the order $2.
 count() {
-    valgrind --tool=callgrind --callgrind-out-file=/dev/null --toggle-collect='*em_tool*calls*outcome*' \
+    valgrind --tool=callgrind --callgrind-out-file=/dev/null --toggle-collect='*em_drive*solo*' \
         "$program" solo "$1" 1 "$2" <"$script" 2>"$log" >/dev/null
     counted=$(sed -n 's/.*Collected *: *\([0-9]*\).*/\1/p' "$log")
     [ "${counted:-0}" -gt 0 ] || { cat "$log" >&2; exit 1; }
@@ -121,7 +122,7 @@ ordered)
     # Kind 3 is that of neither context, so both say: half of it is what the context beside the sending one takes.
     for sender in 1 2 3; do
         script_of ordered "$sender" >"$script"
-        echo "$sender $(each 40 100 0,1)"
+        echo "$sender $(each 100 300 0,1)"
     done | awk '
         { took[$1] = $2 }
         END {

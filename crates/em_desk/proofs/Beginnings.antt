@@ -11,7 +11,7 @@ use Rattle.em_log.specs.Lawful.{AllAllowed, is_boot_or_receive}
 use Rattle.em_moments.proofs.Moments.{Moment, EntersBoot, EntersStep, allowed-moment}
 use Rattle.em_laws.proofs.Cores.{Compared, Same, Other, compared, none-some, some-inj}
 use Rattle.em_desk.specs.Served.{AllServed}
-use Rattle.em_desk.proofs.Served.{no-step}
+use Rattle.em_desk.proofs.Served.{step-acks}
 
 -- what is taken has come by a take
 taken-next : (k : Declarations) (past : Past) (c : ℕ) (w : What) → (take_queue past c ≡ None → taken k past c ≡ []) → take_queue_after w (take_queue past c) ≡ None
@@ -36,7 +36,7 @@ begun-next : (k : Declarations) (l : Limits) (past : Past) (d : ℕ) (w b : What
     → (was ≡ Some b → IsTrue (is_boot_or_receive (Some b))) → context_after w was ≡ Some b → IsTrue (is_boot_or_receive (Some b))
 begun-next k l past d (What.Enter body) b was s (EntersBoot none first is) older h =
     let same : What.Enter Body.Boot ≡ b = ap What.Enter (sym is) ∙ some-inj _ _ h in subst (λ (w : What). IsTrue (is_boot_or_receive (Some w))) same refl
-begun-next k l past d (What.Enter body) b was s (EntersStep between owed owes) older h = absurd (none-some _ (sym (no-step k past d s) ∙ owed))
+begun-next k l past d (What.Enter body) b was s (EntersStep between owed owes) older h = absurd (let a = step-acks k past d (What.Enter body) s owed in let is = a.is in cc is)
 begun-next k l past d (What.Start q e t) b was s m older h =
     subst (λ (w : What). IsTrue (is_boot_or_receive (Some w))) (some-inj _ _ h) refl
 begun-next k l past d (What.End lost cells) b was s m older h = absurd (none-some _ h)

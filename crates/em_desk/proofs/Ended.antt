@@ -10,7 +10,7 @@ use Rattle.em_log.specs.declared.ids.Limits.{Limits}
 use Rattle.em_log.specs.History.{Past}
 use Rattle.em_log.specs.Declarations.{below}
 use Rattle.em_log.specs.Contexts.{context, boot_ended}
-use Rattle.em_log.specs.Operations.{all_done}
+use Rattle.em_log.specs.Operations.{all_done, pending}
 use Rattle.em_log.specs.Places.{started}
 use Rattle.em_log.specs.Eligible.{is_between, ready, is_idle, is_wanted, is_quiet, is_at_limit}
 use Rattle.em_log.specs.Answers.{RestAnswer, end_of}
@@ -27,7 +27,7 @@ use Rattle.em_desk.specs.Standing.{Stands}
 use Rattle.em_desk.proofs.Begun.{settled-queues, untaken}
 use Rattle.em_desk.proofs.Numbers.{all-below, none-below, some-below, not-all-below, all-at, not-all-at}
 use Rattle.em_desk.proofs.Ready.{IsFree, ready-by}
-use Rattle.em_desk.proofs.Served.{all-done}
+use Rattle.em_operation_parts.proofs.IdleCores.{no-step}
 use Rattle.em_desk.proofs.Stages.{Stage, Fresh, Booting, Running, stage}
 
 -- contexts
@@ -76,9 +76,8 @@ booting-at p s on =
 
 -- the end
 
-pub idle-is : (p : Parts) → Stands p → boot_ended p.history.past ≡ true → list_all is_closed p.contexts.items ≡ true → is_idle p.declarations p.history.past ≡ true
-idle-is p s over all =
-    let done = all-done p.declarations p.history.past s.served in
+pub idle-is : (p : Parts) → Stands p → boot_ended p.history.past ≡ true → list_all is_closed p.contexts.items ≡ true → all_done p.history.past ≡ true → is_idle p.declarations p.history.past ≡ true
+idle-is p s over all done =
     let each = all-below (is_between p.declarations p.history.past) p.declarations.cores (λ c lt. between c lt) in
     rw (over, each, done) refl
   where
@@ -122,13 +121,23 @@ busy-is p s o =
     middle true b c is = rw is refl
     middle false b c is = refl
 
+-- nor is it while an operation is pending
+pub pending-is : (k : Declarations) (past : Past) → all_done past ≡ false → is_idle k past ≡ false
+pending-is k past off = last (boot_ended past) _ (all_done past) off
+  where
+    last : (a b c : Bool) → c ≡ false → (a && b && c) ≡ false
+    last true true c is = is
+    last true false c is = refl
+    last false b c is = refl
+
 -- with every context closed, a queue is wanted exactly where some core could be served
-pub free-at : (p : Parts) (c : ℕ) → Stands p → boot_ended p.history.past ≡ true → list_all is_closed p.contexts.items ≡ true → c < p.declarations.cores → IsFree p c
-free-at p c s over all lt =
+pub free-at : (p : Parts) (c : ℕ) → Stands p → boot_ended p.history.past ≡ true → list_all is_closed p.contexts.items ≡ true → all_done p.history.past ≡ true → c < p.declarations.cores → IsFree p c
+free-at p c s over all done lt =
     let cores = s.cores in
     record {
       over = over;
       closed = none-is (context p.history.past c) (sym (closed-is p c s lt) ∙ all-at is_closed p.contexts.items c Opening.Closed all (omega (arith, cores, lt)));
+      unowed = no-step p.declarations p.limits p.history.past (record { each = s.all; whole = s.due }) c lt (none-is (pending p.history.past (λ job. true)) done);
     }
 
 pub wanted-is : (p : Parts) (c q : ℕ) → c < p.declarations.cores → q < length p.declarations.queues

@@ -1,4 +1,4 @@
--- An entry that changes the operations alone, and the flags of queues.
+-- Flags of queues.
 use Rattle.std.proofs.Common.{◌≡◌, ℕ, ◌<◌, ◌≤◌, Bool, true, false, ◌&&◌, [], ◌∷◌, List, length, Option, None, refl, sym, ◌∙◌, subst, arith, IsTrue}
 use Rattle.em_log.specs.declared.ask.Ask.{Ask}
 use Rattle.em_log.specs.declared.declarations.Declarations.{Declarations}
@@ -33,88 +33,14 @@ use Rattle.em_operations.specs.declared.operations.Operations.{Operations}
 use Rattle.em_operations.specs.Operations.{OperationsStand, flag_ask, flag_entry}
 use Rattle.em_desk.specs.declared.parts.Parts.{Parts}
 use Rattle.em_desk.specs.Atomics.{AtomicsStand}
-use Rattle.em_desk.specs.Served.{is_served_entry}
+use Rattle.em_desk.specs.Openings.{opening_of}
 use Rattle.em_desk.specs.Standing.{Stands}
 use Rattle.em_desk.specs.declared.outcome.Outcome.{Outcome}
 use Rattle.em_desk.specs.State.{MayAsk, outcome_of}
 use Rattle.em_desk.proofs.Asked.{steps_of, own-lead, kept-same}
 use Rattle.em_desk.proofs.Begun.{pushed, IsCause, begun, at-rest, all-with, HasRoom, has-room-by, settled-pools, settled-queues}
 use Rattle.em_desk.proofs.Contexts.{opening-stays}
-
--- an entry that concerns the operations alone
-pub record IsBare (w : What) : Type 0 where
-  pub pools : (k : Declarations) (past : Past) (c : ℕ) (s : List PoolStep) → direct k past c w s ≡ s
-  pub queues : (c : ℕ) (t : List QueueStep) → served_steps c w t ≡ t
-  pub atomics : (k : Declarations) (past : Past) (c : ℕ) (s : List AtomicStep) → atomic_after k past c w s ≡ s
-  pub groups : touches_egroups w ≡ false
-  pub orders : touches_orders w ≡ false
-  pub kept : (k : Declarations) (past : Past) (c x : ℕ) → kept k (entry_by c w ∷ past) x ≡ kept k past x
-  pub context : (o : Option What) → context_after w o ≡ o
-  pub begun : (n c : ℕ) (o : Option Operation) → begun_by n c w o ≡ o
-  pub started : (n : ℕ) → started_after w n ≡ n
-  pub cause : (k : Declarations) (past : Past) (c : ℕ) → IsCause k past c w []
-  pub served : (k : Declarations) → IsTrue (is_served_entry k w)
-
-pub bare-stands : (p : Parts) (v : Operations) (c : ℕ) (w : What) → Stands p → c < p.declarations.cores → Begins p.declarations p.limits p.history.past c w → IsBare w
-    → IsAfforded p.declarations p.history.past (entry_by c w) → needed p.declarations (entry_by c w ∷ p.history.past) ≤ needed p.declarations p.history.past
-    → OperationsStand p.declarations v (entry_by c w ∷ p.history.past) → Stands (record p { history = pushed p c w; operations = v })
-bare-stands p v c w s lt begins b afforded less stands =
-    at-rest (record p { history = pushed p c w; operations = v }) c
-    (begun p (record p { operations = v }) 0 c w [] [] 0 s lt begins (b.served p.declarations) (b.cause p.declarations p.history.past c) tt
-    (record {
-      pools = subst (pools.Stands p.pools) (sym (b.pools p.declarations p.history.past c (steps_of p))) (settled-pools p 0 s);
-      pool_shape = refl;
-      queues = subst (queues.Stands p.declarations p.queues) (sym (b.queues c (queue_steps p.declarations p.history.past))) (settled-queues p 0 s);
-      queue_shape = refl;
-      atomics = subst (AtomicsStand p.declarations p.atomics) (sym (b.atomics p.declarations p.history.past c (atomic_steps p.declarations p.history.past))) s.atomics;
-      groups = groups-kept p.declarations p.groups p.history.past c w b.groups s.groups;
-      orders = orders-kept p.declarations p.orders p.history.past c w 0 b.orders s.orders;
-      operations = stands;
-      ready = tt;
-      kept = kept-same p.declarations p.history.past (entry_by c w ∷ p.history.past) p.kept (b.kept p.declarations p.history.past c) s.kept;
-      cores = refl;
-      contexts = λ d lt. s.contexts d lt
-          ∙ sym (opening-stays p.declarations p.history.past c d w b.context (λ n. b.begun n c (operation p.history.past n)));
-      started = s.started ∙ sym (b.started (started p.history.past));
-      within = s.within;
-      room = let r = s.room in omega (arith, less, r);
-      mintable = let r = s.mintable in omega (arith, less, r);
-      afforded = afforded;
-    }))
-
--- the same parts with other operations that stand for the same history
-pub with-operations : (p : Parts) (v : Operations) → Stands p → OperationsStand p.declarations v p.history.past → Stands (record p { operations = v })
-with-operations p v s stands =
-    record {
-      fixed = record { graph = s.fixed.graph; limits = s.fixed.limits };
-      all = s.all;
-      served = s.served;
-      core = tt;
-      due = s.due;
-      pool = s.pool;
-      pools = s.pools;
-      pool_lag = s.pool_lag;
-      pool_shape = s.pool_shape;
-      queue = s.queue;
-      queues = s.queues;
-      queue_lag = s.queue_lag;
-      queue_shape = s.queue_shape;
-      atomics = s.atomics;
-      groups = s.groups;
-      orders = s.orders;
-      operations = stands;
-      ready = tt;
-      kept = s.kept;
-      cores = s.cores;
-      contexts = s.contexts;
-      started = s.started;
-      within = s.within;
-      room = s.room;
-      mintable = s.mintable;
-      afforded = s.afforded;
-    }
-
--- flags
+use Rattle.em_desk.proofs.OperationEntries.{IsBare, bare-stands}
 
 first-and : (a b : Bool) → IsTrue (a && b) → IsTrue a
 first-and true b h = refl
@@ -124,7 +50,7 @@ last-and : (a b : Bool) → IsTrue (a && b) → IsTrue b
 last-and true b h = h
 last-and false b h = absurd cc
 
-is-declared : (p : Parts) (c : ℕ) (a : Ask) → MayAsk p.declarations p.history.past c a → IsTrue (is_declared p.declarations a)
+pub is-declared : (p : Parts) (c : ℕ) (a : Ask) → MayAsk p.declarations p.history.past c a → IsTrue (is_declared p.declarations a)
 is-declared p c a may =
     let asked = first-and _ (is_placed (context p.history.past c) (holds p.declarations p.history.past c) a) may.may in
     first-and (is_declared p.declarations a) (is_typed a) (last-and _ (is_ask p.declarations a) asked)
@@ -151,9 +77,7 @@ flag-bare q true =
       orders = refl;
       kept = λ k past c x. refl;
       context = λ o. refl;
-      begun = λ n c o. refl;
       started = λ n. refl;
-      cause = λ k past c. record { pools = λ s. refl; queues = λ t. refl; tail = refl };
       served = λ k. refl;
     }
 flag-bare q false =
@@ -165,14 +89,17 @@ flag-bare q false =
       orders = refl;
       kept = λ k past c x. refl;
       context = λ o. refl;
-      begun = λ n c o. refl;
       started = λ n. refl;
-      cause = λ k past c. record { pools = λ s. refl; queues = λ t. refl; tail = refl };
       served = λ k. refl;
     }
 
 pub flag-cause : (k : Declarations) (past : Past) (c : ℕ) (q : QueueId) (on : Bool) → IsCause k past c (flag_entry q on) []
-flag-cause k past c q on = (flag-bare q on).cause k past c
+flag-cause k past c q true = record { pools = λ s. refl; queues = λ t. refl; tail = refl }
+flag-cause k past c q false = record { pools = λ s. refl; queues = λ t. refl; tail = refl }
+
+flag-opens : (k : Declarations) (past : Past) (c d : ℕ) (q : QueueId) (on : Bool) → opening_of k (entry_by c (flag_entry q on) ∷ past) d ≡ opening_of k past d
+flag-opens k past c d q true = opening-stays k past c d (What.Enable q) (λ o. refl) (λ n. refl)
+flag-opens k past c d q false = opening-stays k past c d (What.Disable q) (λ o. refl) (λ n. refl)
 
 pub flag-told : (q : QueueId) (on : Bool) → Outcome.Done ≡ outcome_of (flag_entry q on)
 flag-told q true = refl
@@ -203,4 +130,5 @@ pub flag-stands : (p : Parts) (v : Operations) (c : ℕ) (q : QueueId) (on : Boo
     → Stands (record p { history = pushed p c (flag_entry q on); operations = v })
 flag-stands p v c q on s may ok stands =
     bare-stands p v c (flag_entry q on) s may.core (Asks (flag_ask q on) may.may (flag-gives p.declarations p.history.past c q on ok)) (flag-bare q on)
+    (flag-cause p.declarations p.history.past c q on) (λ d. flag-opens p.declarations p.history.past c d q on)
     (flag-afforded p c q on may) (flag-needed p c q on s may) stands

@@ -40,6 +40,8 @@ mod Receives
 mod Ended
 mod Built
 mod TakeAnswers
+mod OperationEntries
 mod Flags
+mod Changes
 mod AtomicSets
 mod HeldAtomics

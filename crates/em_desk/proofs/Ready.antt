@@ -29,14 +29,14 @@ use Rattle.em_desk.specs.declared.parts.Parts.{Parts}
 use Rattle.em_desk.specs.Atomics.{is_held}
 use Rattle.em_operations.specs.Operations.{may_take}
 use Rattle.em_desk.specs.Standing.{Stands}
-use Rattle.em_desk.proofs.Served.{no-step}
 use Rattle.em_desk.proofs.Begun.{untaken, atomics}
 use Rattle.em_desk.proofs.Numbers.{all-below, none-below}
 
--- the core is between contexts
+-- the core is between contexts, and owes no step
 pub record IsFree (p : Parts) (c : ℕ) : Type 0 where
   pub over : boot_ended p.history.past ≡ true
   pub closed : context p.history.past c ≡ None
+  pub unowed : step p.declarations p.history.past c ≡ None
 
 both : (a b : Bool) → a ≡ true → b ≡ true → (a && b) ≡ true
 both a b ia ib = rw (ia, ib) refl
@@ -97,7 +97,7 @@ serve-by p c q may s f allowed can =
     let waits : not (is_empty (waiting k past q c)) ≡ true = sym (serve-waits p c q s parts.1) ∙ some.1 in
     let unheld : is_unheld k past q ≡ true = unheld-is p q s ∙ free.1 in
     let bt = between p c s f in
-    let unowed = no-step k past c s.served in
+    let unowed = f.unowed in
     let run = open_now.0 in
     let group = may_go.1 in
     let on = open_now.1 in

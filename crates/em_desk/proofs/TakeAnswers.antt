@@ -14,26 +14,27 @@ use Rattle.em_log.specs.declared.ids.EoId.{EoId}
 use Rattle.em_log.specs.declared.entry.Event.{Event}
 use Rattle.em_desk.specs.declared.opening.Opening.{Opening}
 use Rattle.em_desk.specs.declared.desk.Desk.TheInside.{Inside}
+use Rattle.em_log.specs.declared.ids.OpId.{OpId}
 use Rattle.em_log.specs.declared.ids.QueueId.{QueueId}
 use Rattle.em_log.specs.History.{Past, entry_by}
 use Rattle.em_log.specs.Declarations.{below, numbers_from}
 use Rattle.em_log.specs.Contexts.{context, boot_ended}
-use Rattle.em_log.specs.Operations.{step}
+use Rattle.em_log.specs.Operations.{step, all_done}
 use Rattle.em_log.specs.Places.{started, promised}
 use Rattle.em_log.specs.Eligible.{ready, eligible, is_choice, is_idle, is_wanted, is_quiet, is_at_limit}
-use Rattle.em_log.specs.Answers.{Takes, Early, Rests, Receives, RestAnswer, is_first, has_choice, end_of, block, context_told}
+use Rattle.em_log.specs.Answers.{Takes, Early, Rests, Acks, Receives, RestAnswer, is_first, has_choice, end_of, block, context_told}
 use Rattle.em_laws.proofs.Cores.{Compared, Same, Other, compared}
 use Rattle.em_desk.specs.declared.parts.Parts.{Parts}
 use Rattle.em_desk.specs.Answers.{rest_of}
 use Rattle.em_desk.specs.Openings.{opening_at, is_boot, is_closed}
 use Rattle.em_desk.specs.Standing.{Stands}
-use Rattle.em_desk.specs.State.{DeskState, state_of, IsWaited, Busy, Other as OtherCore}
+use Rattle.em_desk.specs.State.{DeskState, state_of, IsWaited, Busy, Other as OtherCore, Owing}
 use Rattle.em_desk.proofs.Ended.{boot-over, booting-at, idle-is, open-at, rests}
 use Rattle.em_desk.proofs.Numbers.{some-below}
 use Rattle.em_desk.proofs.Ready.{promised-is}
 use Rattle.em_desk.proofs.OpenTickets.{next_number}
 use Rattle.em_desk.proofs.Receives.{IsFirst, take_of}
-use Rattle.em_desk.proofs.Served.{no-step}
+use Rattle.em_operations.proofs.DoneOperations.{owing-core}
 use Rattle.em_desk.proofs.Stages.{boot-open}
 
 -- the desk's value, once room is made
@@ -71,17 +72,15 @@ over-by p os e b s empty some same is off = boot-over p s (boots-by p os b false
 abbrev pub receive_of : QueueId → EoId → Event → Option ℕ → Option Cells → Context
 receive_of q x e n cells = Context.Receive (record { queue = q; eo = x; event = e; stamp = None; ticket = n; cells = cells; rest = [] })
 
--- the core owes no step
-unowed : (p : Parts) (n : ℕ) (answer : Answer) (r : Reply) → Stands p → r ≡ record { answer = answer; owed = false } → r.owed ≡ is_some (step p.declarations p.history.past n)
-unowed p n answer r s is = ap (λ (r : Reply). r.owed) is ∙ sym (ap is_some (no-step p.declarations p.history.past n s.served))
-
 not-first : (n : ℕ) (past : Past) → past ≢ [] → is_first n past ≡ false
 not-first n [] some = absurd (some refl)
 not-first n (e ∷ past) some = refl
 
-pub owed-by : (t : DeskState) (p : Parts) (n : ℕ) (answer : Answer) (r : Reply) → Stands p → p.declarations ≡ t.declarations → r ≡ record { answer = answer; owed = false }
-    → r.owed ≡ is_some (step t.declarations p.history.past n)
-owed-by t p n answer r s same is = subst (λ (k : Declarations). r.owed ≡ is_some (step k p.history.past n)) same (unowed p n answer r s is)
+-- the reply tells whether the core owes a step
+pub owed-by : (t : DeskState) (p : Parts) (n : ℕ) (answer : Answer) (owed : Bool) (r : Reply) → p.declarations ≡ t.declarations
+    → owed ≡ is_some (step p.declarations p.history.past n) → r ≡ record { answer = answer; owed = owed } → r.owed ≡ is_some (step t.declarations p.history.past n)
+owed-by t p n answer owed r same told is =
+    ap (λ (r : Reply). r.owed) is ∙ (told ∙ ap (λ (k : Declarations). is_some (step k p.history.past n)) same)
 
 -- before boot has ended
 pub early : (p : Parts) (n : ℕ) → Stands p → p.history.past ≢ [] → is_boot (opening_at p.contexts.items 0) ≡ true
@@ -93,10 +92,11 @@ pub waits-for-boot : (p : Parts) (n : ℕ) → Stands p → is_boot (opening_at 
 waits-for-boot p n s on = let least = s.fixed.graph.some_cores in Busy 0 (What.Enter Body.Boot) (omega (arith, least)) (booting-at p s on)
 
 -- nothing is taken
-pub rests-now : (p : Parts) (n : ℕ) (o : Option EndKind) → Stands p → boot_ended p.history.past ≡ true → has_choice p.declarations p.limits p.history.past n ≡ false
-    → o ≡ end_of p.declarations p.limits p.history.past → Takes p.declarations p.limits false p.history.past n (rest_of o) p.history.past
-rests-now p n o s over none is =
-    Rests refl over (no-step p.declarations p.history.past n s.served) none
+pub rests-now : (p : Parts) (n : ℕ) (o : Option EndKind) → Stands p → boot_ended p.history.past ≡ true → step p.declarations p.history.past n ≡ None
+    → has_choice p.declarations p.limits p.history.past n ≡ false → o ≡ end_of p.declarations p.limits p.history.past
+    → Takes p.declarations p.limits false p.history.past n (rest_of o) p.history.past
+rests-now p n o s over unowed none is =
+    Rests refl over unowed none
     (subst (λ (o : Option EndKind). RestAnswer p.declarations p.limits p.history.past (rest_of o)) (sym is) (rests p.declarations p.limits p.history.past)) refl
 
 any-from : (f : ℕ → Bool) (n a : ℕ) → list_any f (numbers_from a n) ≡ true → (j : ℕ) × ((j < a + n) × (f j ≡ true))
@@ -109,10 +109,10 @@ any-from f (suc n) a h = by_test (f a) refl h (any-from f n (suc a))
     by_test false t h later = let l = later h in let lt = l.1.0 in (l.0, (omega (arith, lt), l.1.1))
 
 -- where nothing has ended and no context is open, another core could take
-other-core : (p : Parts) (n : ℕ) → Stands p → boot_ended p.history.past ≡ true → list_all is_closed p.contexts.items ≡ true → has_choice p.declarations p.limits p.history.past n ≡ false
+other-core : (p : Parts) (n : ℕ) → Stands p → boot_ended p.history.past ≡ true → list_all is_closed p.contexts.items ≡ true → all_done p.history.past ≡ true → has_choice p.declarations p.limits p.history.past n ≡ false
     → is_quiet p.declarations p.history.past ≡ false → is_at_limit p.declarations p.limits p.history.past ≡ false → IsWaited p.declarations p.limits p.history.past n
-other-core p n s over all none unquiet unlimited =
-    let idle = idle-is p s over all in by_wanted (is_wanted p.declarations p.history.past) refl idle
+other-core p n s over all done none unquiet unlimited =
+    let idle = idle-is p s over all done in by_wanted (is_wanted p.declarations p.history.past) refl idle
   where
     could : (d q : ℕ) → q < length p.declarations.queues → ready p.declarations p.history.past d q ≡ true → is_idle p.declarations p.history.past ≡ true
         → is_wanted p.declarations p.history.past ≡ true → Compared (started p.history.past) p.limits.receives → has_choice p.declarations p.limits p.history.past d ≡ true
@@ -141,9 +141,9 @@ other-core p n s over all none unquiet unlimited =
         by_same d.0 (omega (arith, lt)) (could d.0 q.0 (omega (arith, ql)) q.1.1 idle on (compared (started p.history.past) p.limits.receives)) (compared d.0 n)
 
 -- an idle core waits for an open context to end, or only another core could take
-pub waits-or-rests : (p : Parts) (n : ℕ) → Stands p → boot_ended p.history.past ≡ true → has_choice p.declarations p.limits p.history.past n ≡ false
+pub waits-or-rests : (p : Parts) (n : ℕ) → Stands p → boot_ended p.history.past ≡ true → step p.declarations p.history.past n ≡ None → has_choice p.declarations p.limits p.history.past n ≡ false
     → rest_of (end_of p.declarations p.limits p.history.past) ≡ Answer.Idle → IsWaited p.declarations p.limits p.history.past n
-waits-or-rests p n s over none idle = by_closed (list_all is_closed p.contexts.items) refl
+waits-or-rests p n s over unowed none idle = by_closed (list_all is_closed p.contexts.items) refl
   where
     unended : (q l : Bool) → rest_of (if q then Some EndKind.Quiet else if l then Some EndKind.Limit else None) ≡ Answer.Idle → (q ≡ false) × (l ≡ false)
     unended true l h = absurd (cc h)
@@ -154,12 +154,29 @@ waits-or-rests p n s over none idle = by_closed (list_all is_closed p.contexts.i
     by_closed false off = let o = open-at p s off in Busy o.core o.began o.within o.context
     by_closed true all =
         let u = unended (is_quiet p.declarations p.history.past) (is_at_limit p.declarations p.limits p.history.past) idle in
-        other-core p n s over all none u.0 u.1
+        by_done (all_done p.history.past) refl u.0 u.1
+      where
+        -- while an operation is pending, another core owes a step
+        by_owing : (d : ℕ) → d < p.declarations.cores → is_some (step p.declarations p.history.past d) ≡ true → Compared d n → IsWaited p.declarations p.limits p.history.past n
+        by_owing d lt owes (Other f ne) = Owing d lt ne over owes
+        by_owing d lt owes (Same t e) =
+            absurd (let own : is_some (step p.declarations p.history.past d) ≡ false = ap (λ (c : ℕ). is_some (step p.declarations p.history.past c)) e ∙ ap is_some unowed in cc (owes, own))
+
+        by_done : (b : Bool) → all_done p.history.past ≡ b → is_quiet p.declarations p.history.past ≡ false → is_at_limit p.declarations p.limits p.history.past ≡ false
+            → IsWaited p.declarations p.limits p.history.past n
+        by_done true done unquiet unlimited = other-core p n s over all done none unquiet unlimited
+        by_done false off unquiet unlimited =
+            let o = owing-core p.declarations p.limits p.history.past (record { each = s.all; whole = s.due }) off in by_owing o.0 o.1.0 o.1.1 (compared o.0 n)
 
 -- an event is taken
 pub receives-now : (p : Parts) (n : ℕ) (q : QueueId) (t : Option ℕ) (context : Context) (now : Past) → Stands p → boot_ended p.history.past ≡ true
-    → is_choice p.declarations p.limits p.history.past n q.0 ≡ true → IsFirst p n q → t ≡ next_number p q → now ≡ block p.declarations p.history.past (entry_by n (take_of q t))
+    → step p.declarations p.history.past n ≡ None → is_choice p.declarations p.limits p.history.past n q.0 ≡ true → IsFirst p n q → t ≡ next_number p q → now ≡ block p.declarations p.history.past (entry_by n (take_of q t))
     → context_told p.declarations now n ≡ Some context → Takes p.declarations p.limits false p.history.past n (Answer.Context context) now
-receives-now p n q t context now s over choice f number is told =
-    Receives q.0 context refl over (no-step p.declarations p.history.past n s.served) choice
+receives-now p n q t context now s over unowed choice f number is told =
+    Receives q.0 context refl over unowed choice
     (is ∙ ap (λ (w : What). block p.declarations p.history.past (entry_by n w)) (ap (take_of q) number ∙ sym f.take)) told refl
+
+-- a change is acknowledged
+pub acks-now : (p : Parts) (n : ℕ) (op : OpId) (now : Past) → boot_ended p.history.past ≡ true → step p.declarations p.history.past n ≡ Some (What.Ack op)
+    → now ≡ block p.declarations p.history.past (entry_by n (What.Ack op)) → Takes p.declarations p.limits false p.history.past n (Answer.Acked op) now
+acks-now p n op now over owed is = Acks op.0 refl over owed is refl

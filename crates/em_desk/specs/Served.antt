@@ -26,6 +26,8 @@ served k Ask.EndGroup = true
 served k (Ask.Apply g n notes) = true
 served k (Ask.Increment n) = true
 served k (Ask.Abort g) = true
+-- a change with notes is not served yet
+served k (Ask.Modify g m []) = true
 served k (Ask.End cells) = true
 served k ask = false
 

@@ -28,11 +28,13 @@ pub record DeskState : Type 0 where
 abbrev pub state_of : Inside → DeskState
 state_of d = record { declarations = d.parts.declarations; limits = d.parts.limits; past = d.parts.history.past; halted = d.halted }
 
--- core c has to wait: for boot to begin on core 0, for some open context to end, or since only another core could take
+-- core c has to wait: for boot to begin on core 0, for some open context to end, or since only another core could take, or has a
+-- step of an operation to do
 pub data IsWaited (k : Declarations) (l : Limits) (past : Past) (c : ℕ) : Type 0 where
   Unbegun : past ≡ [] → c ≢ 0 → IsWaited k l past c
   Busy : (d : ℕ) (b : What) → d < k.cores → context past d ≡ Some b → IsWaited k l past c
   Other : (d : ℕ) → d < k.cores → d ≢ c → IsTrue (boot_ended past) → IsTrue (has_choice k l past d) → IsWaited k l past c
+  Owing : (d : ℕ) → d < k.cores → d ≢ c → IsTrue (boot_ended past) → IsTrue (is_some (step k past d)) → IsWaited k l past c
 
 -- the run is the same, whatever its history
 pub record IsSameRun (old new : DeskState) : Type 0 where

@@ -63,6 +63,7 @@ impl Parts {
             Ask::EndGroup => self.end_group(core),
             Ask::Enable(queue) => self.flag(core, queue, true),
             Ask::Disable(queue) => self.flag(core, queue, false),
+            Ask::Modify { group, mask, .. } => self.modify(core, group, mask),
             Ask::EndAtomic(cells) => self.end_atomic(core, cells),
             Ask::EndOrdered => self.end_ordered(core),
             Ask::End(cells) => self.end(core, cells),

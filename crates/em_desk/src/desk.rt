@@ -119,20 +119,24 @@ impl Desk {
     {
         self.parts.make_room()?;
         if self.halted {
-            return Ok(told(BriefAnswer::Halted));
+            return Ok(told(BriefAnswer::Halted, self.parts.owes(core)));
         }
         if self.parts.history.is_empty() {
             if core.0 > 0 {
-                return Ok(told(BriefAnswer::Idle));
+                return Ok(told(BriefAnswer::Idle, self.parts.owes(core)));
             }
             self.parts.boot();
-            return Ok(told(BriefAnswer::Boot));
+            return Ok(told(BriefAnswer::Boot, self.parts.owes(core)));
         }
         if is_booting(self.parts.contexts.as_slice()) {
-            return Ok(told(BriefAnswer::Idle));
+            return Ok(told(BriefAnswer::Idle, self.parts.owes(core)));
+        }
+        if let Some(op) = self.parts.owed_change(core) {
+            self.parts.acknowledge(core, op);
+            return Ok(told(BriefAnswer::Acked(op), self.parts.owes(core)));
         }
         let Some(queue) = self.parts.choice(core) else {
-            return Ok(told(rest(self.parts.end_kind())));
+            return Ok(told(rest(self.parts.end_kind()), self.parts.owes(core)));
         };
         let Received {
             event,
@@ -140,7 +144,8 @@ impl Desk {
             cells,
         } = self.parts.receive(core, queue);
         let object = object_of(&self.parts.declarations, queue);
-        Ok(told(received(queue, object, event, ticket, cells)))
+        let answer = received(queue, object, event, ticket, cells);
+        Ok(told(answer, self.parts.owes(core)))
     }
 
     /// An ask of the core's open context, which has enough left of its allowance. It adds the entry that the ask gives
@@ -165,7 +170,8 @@ impl Desk {
         requires served { IsTrue (served self.old.declarations ask) }
         ensures { IsAnswered self.old self.new core.0 (lead self.old.declarations self.old.past core.0 ask) result }
     {
-        reply(self.parts.ask(core, ask))
+        let outcome = self.parts.ask(core, ask);
+        reply(outcome, self.parts.owes(core))
     }
 
     /// From now on each take answers that the run was halted.

@@ -1,5 +1,5 @@
 //! Replies to a take.
-ghost use Rattle.std.specs.Prelude.{◌≡◌, [], false, None};
+ghost use Rattle.std.specs.Prelude.{◌≡◌, [], None};
 ghost use Rattle.em_replies.specs.Answers.{whole_answer};
 ghost use Rattle.em_log.specs.declared.ask.Answer.{Answer as TheAnswer};
 ghost use Rattle.em_desk.specs.Answers.{rest_of};
@@ -8,11 +8,11 @@ ghost use Rattle.em_log.specs.declared.ask.Context.{Context as TheContext};
 use em_log::{Cells, EndKind, EoId, Event, QueueId};
 use em_replies::{BriefAnswer, BriefReceive, BriefReply};
 
-/// A reply after which no step is owed.
-pub fn told(answer: BriefAnswer) -> BriefReply
-    ensures { result ≡ record { answer = whole_answer answer; owed = false } }
+/// A reply to a take, which tells whether the core owes a step then.
+pub fn told(answer: BriefAnswer, owed: bool) -> BriefReply
+    ensures { result ≡ record { answer = whole_answer answer; owed = owed } }
 {
-    BriefReply::new(answer, false)
+    BriefReply::new(answer, owed)
 }
 
 /// The answer where nothing is taken: how the history has ended, if it has, else that there is nothing to do for now.

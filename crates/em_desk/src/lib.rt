@@ -5,6 +5,7 @@ mod acts;
 mod applications;
 mod asks;
 mod atomic_queues;
+mod changes;
 mod choices;
 pub mod desk;
 mod entries;

@@ -1,5 +1,5 @@
 //! What an ask comes to.
-ghost use Rattle.std.specs.Prelude.{◌≡◌, false};
+ghost use Rattle.std.specs.Prelude.{◌≡◌};
 ghost use Rattle.em_desk.specs.State.{answer_by};
 
 use em_log::{Event, Fault};
@@ -14,9 +14,9 @@ pub enum Outcome {
     Refused(Fault),
 }
 
-/// The reply to an ask, after which no step is owed.
-pub fn reply(outcome: Outcome) -> BriefReply
-    ensures { result ≡ record { answer = answer_by outcome; owed = false } }
+/// The reply to an ask, which tells whether the core owes a step then.
+pub fn reply(outcome: Outcome, owed: bool) -> BriefReply
+    ensures { result ≡ record { answer = answer_by outcome; owed = owed } }
 {
     let answer = match outcome {
         Outcome::Done => BriefAnswer::Done,
@@ -24,5 +24,5 @@ pub fn reply(outcome: Outcome) -> BriefReply
         Outcome::Minted(event) => BriefAnswer::Minted(event),
         Outcome::Refused(fault) => BriefAnswer::Refused(fault),
     };
-    BriefReply::new(answer, false)
+    BriefReply::new(answer, owed)
 }

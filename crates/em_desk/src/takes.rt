@@ -100,6 +100,7 @@ impl Parts {
         requires core { core.0 < self.now.declarations.cores }
         requires over { boot_ended self.now.history.past ≡ true }
         requires closed { context self.now.history.past core.0 ≡ None }
+        requires unowed { step self.now.declarations self.now.history.past core.0 ≡ None }
         ensures { MatchOption result (has_choice self.now.declarations self.now.limits self.now.history.past core.0 ≡ false) (λ q. is_choice self.now.declarations self.now.limits self.now.history.past core.0 q.0 ≡ true) }
     {
         if self.started == self.limits.receives {
@@ -115,6 +116,9 @@ impl Parts {
         ensures { result ≡ end_of self.now.declarations self.now.limits self.now.history.past }
     {
         if self.history.is_empty() || !are_closed(self.contexts.as_slice()) {
+            return None;
+        }
+        if !self.operations.are_done() {
             return None;
         }
         let cores = self.declarations.cores;

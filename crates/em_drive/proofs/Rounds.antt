@@ -1,5 +1,5 @@
 -- Rounds of turns: each core keeps its run, and a round that does not end the run adds an entry.
-use Rattle.std.proofs.Common.{◌≡◌, ◌≢◌, ◌⊎◌, inl, inr, ℕ, zero, suc, ◌+◌, ◌<◌, ◌≤◌, ◌==◌, Bool, true, false, ◌||◌, List, [], ◌∷◌, ◌++◌, length, Option, Some, None, refl, sym, ap, ◌∙◌, subst, arith, slice_get, slice_set, slice_index_or, take, drop, eq-eqb, IfSome}
+use Rattle.std.proofs.Common.{◌≡◌, ◌≢◌, ◌⊎◌, inl, inr, ℕ, zero, suc, ◌+◌, ◌<◌, ◌≤◌, ◌==◌, Bool, true, false, ◌||◌, List, [], ◌∷◌, ◌++◌, length, Option, Some, None, refl, sym, ap, ◌∙◌, subst, arith, slice_get, slice_set, slice_index_or, take, drop, eq-eqb, IfSome, is_some}
 use Rattle.std.proofs.lemmas.Option.{slice_get_within, slice_get_cases, slice_get-get_or}
 use Rattle.std.proofs.lemmas.List.{length-set}
 use Rattle.em_log.specs.declared.ask.Answer.{Answer}
@@ -19,7 +19,8 @@ use Rattle.em_core.specs.Steps.{unreplied, over}
 use Rattle.em_body.specs.contracts.run.BodyRunWork.TheImpl.{ghosts}
 use Rattle.em_body.specs.Standings.{Made, Run}
 use Rattle.em_laws.proofs.Cores.{Compared, Same, Other, compared, some-inj}
-use Rattle.em_desk.specs.State.{DeskState, IsWaited, Unbegun, Busy, Other as OtherCore}
+use Rattle.em_log.specs.Operations.{step}
+use Rattle.em_desk.specs.State.{DeskState, IsWaited, Unbegun, Busy, Other as OtherCore, Owing}
 use Rattle.em_drive.specs.Going.{AreGoing, HasRounded, HasTurned, IsAfter, IsAwaiting, IsGrownBy, IsIdle}
 use Rattle.em_drive.specs.Orders.{IsOrderOf}
 use Rattle.em_drive.specs.Runs.{AreNew, IsNew, IsRun}
@@ -220,6 +221,17 @@ no-choice k l past now c b x going is over some (Acks op h booted owed new a) = 
 no-choice k l past now c b x going is over some (Receives q opened h booted none choice new told a) = cc (a, is)
 no-choice k l past now c b x going is over some (Rests h booted none no_choice rest same) = cc (some, no_choice)
 
+-- nor does it owe a step
+no-owing : (k : Declarations) (l : Limits) (past now : Past) (c : ℕ) (b : Bool) (x : Answer) → b ≡ false → x ≡ Answer.Idle → boot_ended past ≡ true
+    → is_some (step k past c) ≡ true → Takes k l b past c x now → ⊥
+no-owing k l past now c b x going is over some (Halted halts a n) = cc (halts, going)
+no-owing k l past now c b x going is over some (Boots h first a n) = cc (a, is)
+no-owing k l past now c b x going is over some (Early h second early a n) = cc (early, over)
+no-owing k l past now c b x going is over some (Enters e opened h booted owed new told a) = cc (a, is)
+no-owing k l past now c b x going is over some (Acks op h booted owed new a) = cc (a, is)
+no-owing k l past now c b x going is over some (Receives q opened h booted none choice new told a) = cc (a, is)
+no-owing k l past now c b x going is over some (Rests h booted none no_choice rest same) = let off = ap is_some none in cc (some, off)
+
 -- not all cores are idle
 some-works : (g : Config) (l : Limits) (past : Past) → 0 < g.cores → ((c : ℕ) → c < g.cores → IsIdle g l past c) → ⊥
 some-works g l past some idle = by_waited (idle 0 some).waited
@@ -229,6 +241,8 @@ some-works g l past some idle = by_waited (idle 0 some).waited
     by_waited (Busy d b below open') = cc ((idle d below).closed, open')
     by_waited (OtherCore d below other over could) =
         no-choice (declarations_of g) l past past d false Answer.Idle refl refl over could (idle d below).takes
+    by_waited (Owing d below other over owes) =
+        no-owing (declarations_of g) l past past d false Answer.Idle refl refl over owes (idle d below).takes
 
 -- a whole round has added an entry
 pub round-grows : (g : Config) (l : Limits) (past now : Past) (order : List ℕ) → IsWellFormed g → IsOrderOf g.cores order

@@ -82,7 +82,7 @@ const ERROR_BODIES_RUN: [Form; 7] = [
 
 const BODIES_NOT_RUN_TODAY: [Form; 9] = [
     ("cores 1", "", "", "error\ndisable q\nend\n"),
-    ("cores 1", "", "", "error\nif eq ok 1\nenable q\nend\nend\n"),
+    ("cores 1", "", "", "error\nif ok\nenable q\nend\nend\n"),
     ("cores 1", "", "", "body x error\nstop x\nend\n"),
     ("cores 1", "", "", "body x start\nend\n"),
     ("cores 1", "", "", "body x start\nfail\nend\n"),

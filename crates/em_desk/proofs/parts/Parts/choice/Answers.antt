@@ -29,7 +29,7 @@ returns c =
     let p = c.args.self.now in
     let n = c.args.core.0 in
     let s = c.requires.stands in
-    chosen p n c.without-may.result c.best.result s (record { over = c.requires.over; closed = c.requires.closed }) c.if-self.false
+    chosen p n c.without-may.result c.best.result s (record { over = c.requires.over; closed = c.requires.closed; unowed = c.requires.unowed }) c.if-self.false
     (λ q. c.without-may.ensures q ∙ (λ i. c.may_take.ensures p.declarations p.limits p.history.past s.all s.operations q i && not (s.atomics.held q i)))
     (c.best.ensures p.declarations (queue_steps p.declarations p.history.past) (settled-queues p 0 s))
 

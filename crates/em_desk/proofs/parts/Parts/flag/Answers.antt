@@ -5,7 +5,8 @@ use Rattle.em_desk.specs.Histories.{HistoryState}
 use Rattle.em_desk.specs.Standing.{Stands}
 use Rattle.em_operations.specs.Operations.{flag_ask, flag_entry}
 use Rattle.em_desk.proofs.Asked.{adds-none}
-use Rattle.em_desk.proofs.Flags.{with-operations, flag-queue, flag-costs, flag-cause, flag-gives, flag-told, flag-room, flag-stands}
+use Rattle.em_desk.proofs.OperationEntries.{with-operations}
+use Rattle.em_desk.proofs.Flags.{flag-queue, flag-costs, flag-cause, flag-gives, flag-told, flag-room, flag-stands}
 use Rattle.em_desk.proofs.parts.Parts.flag.Goals as goal
 
 pub flag-requires : goal.flag-requires
