@@ -71,11 +71,11 @@ abort-stands p q c g s may ok groups =
     let events = s.fixed.graph.events in
     let small : HasSmallIndices p.declarations = omega (arith, events) in
     let on : busy p.history.past g.0 ≡ true = busy-by (busy p.history.past g.0) g ok in
-    asked-begun p (record q { pools = p.pools; queues = p.queues; atomics = p.atomics; orders = p.orders; kept = p.kept }) c (Ask.Abort g) (abort_of g) (freed_acts (applied_notes p.history.past g.0)) [] 0 s
+    asked-begun p (record q { pools = p.pools; queues = p.queues; atomics = p.atomics; orders = p.orders; stamps = p.stamps; kept = p.kept }) c (Ask.Abort g) (abort_of g) (freed_acts (applied_notes p.history.past g.0)) [] 0 s
     (abort-asked p c g may ok) refl (abort-cause p.declarations p.history.past c g) (core-tail p.declarations c (freed_acts (applied_notes p.history.past g.0)) [] may.core)
     (settled-pools p 0 s) refl (omega arith) (settled-queues p 0 s) refl s.atomics groups
     (orders-kept p.declarations p.orders p.history.past c (abort_of g) 0 refl s.orders)
     (freed-ready p.declarations p.limits p.history.past _ (applied_notes p.history.past g.0) small s.all
     (group-noted p.declarations p.history.past g.0 on (parked-sit p.declarations p.limits p.history.past small s.all))
     (λ h. (applied-spent p.declarations p.limits p.history.past s.all g.0).once h))
-    (kept-same p.declarations p.history.past (entry_by c (abort_of g) ∷ p.history.past) p.kept (λ x. refl) s.kept)
+    (kept-same p.declarations p.history.past (entry_by c (abort_of g) ∷ p.history.past) p.kept (λ x. refl) s.kept) (asked-stamps p c (Ask.Abort g) (abort_of g) s (abort-asked p c g may ok) refl (λ o. refl))

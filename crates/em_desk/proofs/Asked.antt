@@ -1,6 +1,7 @@
 -- What every ask has in common, and those that spend nothing or free.
 use Rattle.std.proofs.Common.{◌≡◌, ℕ, ◌+◌, ◌≤◌, Bool, true, false, not, ◌&&◌, [], ◌∷◌, List, length, map, Option, Some, None, refl, ap, sym, ◌∙◌, subst, arith, IsTrue}
 use Rattle.std.specs.Option.{option_map}
+use Rattle.std.proofs.lemmas.Bool.{eq-eqb}
 use Rattle.em_log.specs.declared.ask.Ask.{Ask}
 use Rattle.em_log.specs.declared.declarations.Declarations.{Declarations}
 use Rattle.em_log.specs.declared.entry.Body.{Body}
@@ -9,13 +10,16 @@ use Rattle.em_log.specs.declared.fault.Call.{Call}
 use Rattle.em_log.specs.declared.fault.Fault.{Fault}
 use Rattle.em_log.specs.declared.ids.EoId.{EoId}
 use Rattle.em_log.specs.declared.ids.Handle.{Handle}
+use Rattle.em_log.specs.declared.ids.Stamp.{Stamp}
 use Rattle.em_log.specs.History.{Past, entry_by, entries_by, onto, index_of}
 use Rattle.em_log.specs.Atomic.{holds}
 use Rattle.em_log.specs.Contexts.{context, object_begun, is_boot}
 use Rattle.em_log.specs.Handles.{rule}
 use Rattle.em_log.specs.Places.{kept}
 use Rattle.em_log.specs.Leads.{refusal, own, lead, refused_or, call_of, scope}
-use Rattle.em_log.specs.Lawful.{is_placed}
+use Rattle.em_log.specs.EventGroups.{stamp_after}
+use Rattle.em_log.specs.Lawful.{is_placed, Asks}
+use Rattle.em_laws.specs.Minted.{HasSmallIndices}
 use Rattle.em_log.specs.Allowance.{cost_of_ask}
 use Rattle.em_log.specs.Answers.{block}
 use Rattle.em_moments.proofs.Asked.{asks-open}
@@ -42,11 +46,13 @@ use Rattle.em_desk.specs.Acts.{said}
 use Rattle.em_desk.specs.Lines.{LinesState}
 use Rattle.em_desk.specs.Openings.{opening_at, opening_by, object_in}
 use Rattle.em_desk.specs.Served.{is_served_entry}
+use Rattle.em_desk.specs.Stamps.{may_enter, StampsStand}
 use Rattle.em_desk.specs.Standing.{Stands, AreKept}
 use Rattle.em_desk.specs.State.{MayAsk, Adds, outcome_of}
 use Rattle.em_desk.proofs.GroupsKept.{groups-kept}
 use Rattle.em_desk.proofs.OrdersKept.{orders-kept}
-use Rattle.em_desk.proofs.Begun.{pushed, IsCause, IsAsked, asked-begun, at-rest, settled-pools, settled-queues, block-none, block-acts}
+use Rattle.em_desk.proofs.StampsKept.{stamps-same}
+use Rattle.em_desk.proofs.Begun.{pushed, IsCause, IsMild, IsAsked, all-with, asked-begun, at-rest, settled-pools, settled-queues, block-none, block-acts}
 
 abbrev pub steps_of : Parts → List PoolStep
 steps_of p = pool_steps p.declarations p.history.past
@@ -63,6 +69,33 @@ pub fault-lead : (k : Declarations) (past : Past) (c : ℕ) (a : Ask) (f : Fault
     → What.Fault (call_of a) f (scope k past c) ≡ lead k past c a
 fault-lead k past c a f refused = sym (ap (λ (r : Option Fault). refused_or k past c (call_of a) r (own k past c a)) refused)
 
+-- stamps
+
+-- an entry that leaves contexts, operations, event groups and tickets spends nothing to enter
+mild-enters : (w : What) → IsMild w → touches_egroups w ≡ false → touches_orders w ≡ false → may_enter w ≡ false
+mild-enters (What.Send h q t s) m groups orders = absurd (cc orders)
+mild-enters (What.Apply g a n notes) m groups orders = absurd (cc groups)
+mild-enters (What.Begin op job notes) m groups orders =
+    let own = eq-eqb op.0 op.0 refl in absurd (let none = m.begun op.0 0 None in cc (rw own at none))
+mild-enters w m groups orders = refl
+
+-- and leaves the stamp of its context
+mild-stays : (w : What) → IsMild w → touches_egroups w ≡ false → (o : Option Stamp) → stamp_after w o ≡ o
+mild-stays (What.Enter b) m groups o = absurd (let none = m.context None in cc none)
+mild-stays (What.Start q e s) m groups o = absurd (let none = m.context None in cc none)
+mild-stays (What.End lost cells) m groups o = absurd (cc groups)
+mild-stays What.EndGroup m groups o = absurd (cc groups)
+mild-stays w m groups o = refl
+
+pub asked-small : (p : Parts) → Stands p → HasSmallIndices p.declarations
+asked-small p s = let few = s.fixed.graph.events in omega (arith, few)
+
+-- the stamps stand after an ask that spends nothing to enter, and stays in its event group
+pub asked-stamps : (p : Parts) (c : ℕ) (a : Ask) (w : What) → Stands p → IsAsked p c a w → may_enter w ≡ false → ((o : Option Stamp) → stamp_after w o ≡ o)
+    → StampsStand p.declarations p.stamps (entry_by c w ∷ p.history.past)
+asked-stamps p c a w s e other stays =
+    stamps-same p.declarations p.limits p.stamps p.history.past c w (asked-small p s) (all-with p 0 c w s e.core (Asks a e.may e.gives)) other stays s.stamps
+
 -- an ask that leaves nothing to do
 
 pub settled-with : (p q : Parts) (c : ℕ) (a : Ask) (w : What) → Stands p → IsAsked p c a w → IsTrue (is_served_entry p.declarations w)
@@ -74,8 +107,9 @@ pub settled-with : (p q : Parts) (c : ℕ) (a : Ask) (w : What) → Stands p →
     → Stands (record p { history = pushed p c w; pools = q.pools; queues = q.queues; atomics = q.atomics; kept = q.kept })
 settled-with p q c a w s e served cause stands shapes spare lists same contexts no_group no_order kept =
     at-rest (record p { history = pushed p c w; pools = q.pools; queues = q.queues; atomics = q.atomics; kept = q.kept }) c
-    (asked-begun p (record q { groups = p.groups; orders = p.orders }) c a w [] [] 0 s e served cause tt stands shapes spare lists same contexts
-    (groups-kept p.declarations p.groups p.history.past c w no_group s.groups) (orders-kept p.declarations p.orders p.history.past c w 0 no_order s.orders) tt kept)
+    (asked-begun p (record q { groups = p.groups; orders = p.orders; stamps = p.stamps }) c a w [] [] 0 s e served cause tt stands shapes spare lists same contexts
+    (groups-kept p.declarations p.groups p.history.past c w no_group s.groups) (orders-kept p.declarations p.orders p.history.past c w 0 no_order s.orders) tt kept
+    (asked-stamps p c a w s e (mild-enters w e.mild no_group no_order) (mild-stays w e.mild no_group)))
 
 -- an entry that takes nothing out of a queue, and leaves the atomic contexts, the event groups and the tickets
 pub record TakesNothing (w : What) : Type 0 where

@@ -39,6 +39,7 @@ use Rattle.em_desk.specs.Openings.{opening_at, opening_of}
 use Rattle.em_bounds.specs.Room.{needed, lefts}
 use Rattle.em_bounds.specs.Bound.{IsAfforded}
 use Rattle.em_desk.specs.Orders.{OrdersStand}
+use Rattle.em_desk.specs.Stamps.{StampsStand}
 use Rattle.em_desk.specs.Standing.{Ending, Standing, Stands, IsCore, AreKept}
 use Rattle.em_bounds.proofs.Room.{needed-lead}
 use Rattle.em_desk.proofs.Contexts.{opening-stays}
@@ -69,6 +70,7 @@ pub record IsMade (p q : Parts) (c : ℕ) (w : What) (acts : List Act) (n : ℕ)
   pub atomics : AtomicsStand p.declarations q.atomics (atomic_after p.declarations p.history.past c w (atomic_steps p.declarations p.history.past))
   pub groups : GroupsStand p.declarations q.groups (entry_by c w ∷ p.history.past)
   pub orders : OrdersStand p.declarations q.orders (entry_by c w ∷ p.history.past) n
+  pub stamps : StampsStand p.declarations q.stamps (entry_by c w ∷ p.history.past)
   pub ready : AreReady p.declarations (direct p.declarations p.history.past c w (pool_steps p.declarations p.history.past))
       (served_steps c w (queue_steps p.declarations p.history.past)) acts
   pub kept : AreKept p.declarations (entry_by c w ∷ p.history.past) q.kept
@@ -106,6 +108,7 @@ begun p q b c w acts rest n s lt begins served cause core m =
       atomics = m.atomics;
       groups = m.groups;
       orders = m.orders;
+      stamps = m.stamps;
       ready = m.ready;
       kept = m.kept;
       cores = m.cores ∙ s.cores;
@@ -155,6 +158,7 @@ at-rest p b s =
       atomics = s.atomics;
       groups = s.groups;
       orders = s.orders;
+      stamps = s.stamps;
       ready = tt;
       kept = s.kept;
       cores = s.cores;
@@ -215,10 +219,10 @@ pub asked-begun : (p q : Parts) (c : ℕ) (a : Ask) (w : What) (acts : List Act)
     → GroupsStand p.declarations q.groups (entry_by c w ∷ p.history.past)
     → OrdersStand p.declarations q.orders (entry_by c w ∷ p.history.past) n
     → AreReady p.declarations (direct p.declarations p.history.past c w (pool_steps p.declarations p.history.past)) (served_steps c w (queue_steps p.declarations p.history.past)) acts
-    → AreKept p.declarations (entry_by c w ∷ p.history.past) q.kept
-    → Ending (record p { history = pushed p c w; pools = q.pools; queues = q.queues; atomics = q.atomics; groups = q.groups; orders = q.orders; kept = q.kept }) c acts rest n
-asked-begun p q c a w acts rest n s e served cause core stands shapes spare lists same contexts groups orders ready kept =
-    begun p (record p { pools = q.pools; queues = q.queues; atomics = q.atomics; groups = q.groups; orders = q.orders; kept = q.kept }) 0 c w acts rest n s e.core (Asks a e.may e.gives) served cause core
+    → AreKept p.declarations (entry_by c w ∷ p.history.past) q.kept → StampsStand p.declarations q.stamps (entry_by c w ∷ p.history.past)
+    → Ending (record p { history = pushed p c w; pools = q.pools; queues = q.queues; atomics = q.atomics; groups = q.groups; orders = q.orders; stamps = q.stamps; kept = q.kept }) c acts rest n
+asked-begun p q c a w acts rest n s e served cause core stands shapes spare lists same contexts groups orders ready kept stamps =
+    begun p (record p { pools = q.pools; queues = q.queues; atomics = q.atomics; groups = q.groups; orders = q.orders; stamps = q.stamps; kept = q.kept }) 0 c w acts rest n s e.core (Asks a e.may e.gives) served cause core
     (record {
       pools = stands;
       pool_shape = shapes;
@@ -227,6 +231,7 @@ asked-begun p q c a w acts rest n s e served cause core stands shapes spare list
       atomics = contexts;
       groups = groups;
       orders = orders;
+      stamps = stamps;
       ready = ready;
       kept = kept;
       cores = refl;

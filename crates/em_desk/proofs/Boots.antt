@@ -1,5 +1,5 @@
 -- Boot begins.
-use Rattle.std.proofs.Common.{◌≡◌, ℕ, ◌+◌, ◌<◌, ◌≤◌, [], ◌∷◌, length, refl, ap, sym, ◌∙◌, subst, arith, slice_set}
+use Rattle.std.proofs.Common.{◌≡◌, ℕ, ◌+◌, ◌<◌, ◌≤◌, ◌==◌, Bool, true, false, None, if◌then◌else◌, [], ◌∷◌, length, refl, ap, sym, ◌∙◌, subst, arith, slice_set}
 use Rattle.std.proofs.lemmas.List.{length-set, get_or-set_same, get_or-set_other}
 use Rattle.em_log.specs.declared.declarations.Declarations.{Declarations}
 use Rattle.em_log.specs.declared.entry.Body.{Body}
@@ -15,6 +15,8 @@ use Rattle.em_laws.proofs.Cores.{Compared, Same, Other, compared}
 use Rattle.em_bounds.specs.Room.{needed, lefts}
 use Rattle.em_bounds.specs.Bound.{IsAfforded, context_need}
 use Rattle.em_bounds.proofs.Room.{lefts-more, other-left}
+use Rattle.em_log.specs.EventGroups.{open_stamp}
+use Rattle.em_desk.specs.Stamps.{StampsStand}
 use Rattle.em_desk.specs.Standing.{Stands}
 use Rattle.em_desk.proofs.Asked.{kept-same}
 use Rattle.em_desk.proofs.Begun.{pushed, IsCause, begun, at-rest, all-with, HasRoom, has-room-by, settled-pools, settled-queues}
@@ -54,6 +56,22 @@ boot-core p s = let some = s.fixed.graph.some_cores in omega (arith, some)
 boot-cause : (k : Declarations) (past : Past) → IsCause k past 0 boot []
 boot-cause k past = record { pools = λ s. refl; queues = λ t. refl; tail = refl }
 
+none-open : (past : Past) (d : ℕ) → past ≡ [] → open_stamp past d ≡ open_stamp (entry_by 0 boot ∷ past) d
+none-open past d none = subst (λ (h : Past). open_stamp h d ≡ open_stamp (entry_by 0 boot ∷ h) d) (sym none) (by_core (0 == d))
+  where
+    by_core : (b : Bool) → open_stamp [] d ≡ (if b then None else open_stamp [] d)
+    by_core true = refl
+    by_core false = refl
+
+boot-stamps : (p : Parts) → Stands p → p.history.past ≡ [] → StampsStand p.declarations p.stamps (entry_by 0 boot ∷ p.history.past)
+boot-stamps p s none =
+    record {
+      count = s.stamps.count;
+      events = λ h r last spent enters. s.stamps.events h r last spent enters;
+      cores = s.stamps.cores;
+      contexts = λ d lt. s.stamps.contexts d lt ∙ none-open p.history.past d none;
+    }
+
 pub boot-stands : (p q : Parts) → Stands p → p.history.past ≡ [] → paid p.history.past + take_room ≤ p.history.capacity → take_room ≤ p.pools.spare
     → q.contexts.items ≡ slice_set p.contexts.items 0 Opening.Boot → Stands (record p { history = pushed p 0 boot; contexts = q.contexts })
 boot-stands p q s none room spare opens =
@@ -67,6 +85,7 @@ boot-stands p q s none room spare opens =
       atomics = s.atomics;
       groups = groups-kept p.declarations p.groups p.history.past 0 boot refl s.groups;
       orders = orders-kept p.declarations p.orders p.history.past 0 boot 0 refl s.orders;
+      stamps = boot-stamps p s none;
       ready = tt;
       kept = kept-same p.declarations p.history.past (entry_by 0 boot ∷ p.history.past) p.kept (λ x. refl) s.kept;
       cores = ap length opens ∙ length-set p.contexts.items 0 Opening.Boot;

@@ -1,5 +1,5 @@
 -- A desk with the empty history.
-use Rattle.std.proofs.Common.{◌≡◌, ℕ, zero, suc, ◌<◌, List, [], length, replicate, slice_index_or, refl, ap, sym, ◌∙◌, subst, arith}
+use Rattle.std.proofs.Common.{◌≡◌, ℕ, zero, suc, ◌<◌, List, [], None, length, replicate, slice_index_or, refl, ap, sym, ◌∙◌, subst, arith}
 use Rattle.std.specs.List.{AllByRecursion}
 use Rattle.std.proofs.lemmas.List.{length-replicate}
 use Rattle.em_log.specs.declared.declarations.Declarations.{Declarations}
@@ -42,9 +42,10 @@ kept-nothing k v lists room =
 
 pub built : (p : Parts) → IsFixed p → p.history.past ≡ [] → pools.Stands p.pools [] → p.pools.pools ≡ p.declarations.pools
     → queues.Stands p.declarations p.queues [] → shape p.queues ≡ shape_of p.declarations → AtomicsStand p.declarations p.atomics [] → GroupsStand p.declarations p.groups [] → order.Stands p.orders [] → shape_of_orders p.orders ≡ order_shape p.declarations
+    → p.stamps.events.items ≡ replicate (event_total p.declarations.pools) None → p.stamps.contexts.items ≡ replicate p.declarations.cores None
     → p.kept.lists ≡ empty_lists (length p.declarations.running) → p.kept.room ≡ event_total p.declarations.pools
     → p.contexts.items ≡ replicate p.declarations.cores Opening.Closed → p.started ≡ 0 → Stands p
-built p fixed fresh pools shapes queues same contexts groups tickets order_shapes lists room closed none =
+built p fixed fresh pools shapes queues same contexts groups tickets order_shapes unstamped unopened lists room closed none =
     let empty = lefts-none p.declarations in
     subst (λ (h : Past). Stands (record p { history = record p.history { past = h } })) (sym fresh)
     (record {
@@ -64,6 +65,12 @@ built p fixed fresh pools shapes queues same contexts groups tickets order_shape
       atomics = contexts;
       groups = groups;
       orders = record { steps = []; stands = tickets; lag = refl; shape = order_shapes };
+      stamps = record {
+        count = ap length unstamped ∙ length-replicate (event_total p.declarations.pools) None;
+        events = λ h s last. absurd (cc last);
+        cores = ap length unopened ∙ length-replicate p.declarations.cores None;
+        contexts = λ c lt. ap (λ os. slice_index_or os c None) unopened ∙ same-at p.declarations.cores c None;
+      };
       ready = tt;
       kept = kept-nothing p.declarations p.kept lists room;
       cores = ap length closed ∙ length-replicate p.declarations.cores Opening.Closed;

@@ -131,6 +131,7 @@ with-queues p v s stands same =
       atomics = s.atomics;
       groups = s.groups;
       orders = s.orders;
+      stamps = s.stamps;
       ready = tt;
       kept = s.kept;
       cores = s.cores;

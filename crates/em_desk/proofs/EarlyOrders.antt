@@ -86,7 +86,7 @@ ordered-stands p q c s may ok ended =
           (ordered-cause p c s) (core-tail p.declarations c (ending_acts p c What.EndOrdered) [] may.core) (settled-pools p 0 s) refl (omega arith) (settled-queues p 0 s) refl s.atomics
           (groups-kept p.declarations p.groups p.history.past c What.EndOrdered refl s.groups) ended.orders
           (releases-ready p (steps_of p) (let_in_by p c What.EndOrdered) s (λ i r there. there) held (λ h. let-in-once p c What.EndOrdered (open_ticket p.history.past c) h s moment))
-          (kept-same p.declarations p.history.past (entry_by c What.EndOrdered ∷ p.history.past) p.kept (λ x. refl) s.kept);
+          (kept-same p.declarations p.history.past (entry_by c What.EndOrdered ∷ p.history.past) p.kept (λ x. refl) s.kept) (asked-stamps p c Ask.EndOrdered What.EndOrdered s asked refl (λ o. refl));
       releases = subst (λ (is : List Item). AreReleases p.declarations (pool_steps p.declarations (entry_by c What.EndOrdered ∷ p.history.past)) is (ending_acts p c What.EndOrdered)) (sym ended.due)
           (releases-known p (map (sent_move p.declarations) (let_in_by p c What.EndOrdered)) (steps_of p) (let_in_by p c What.EndOrdered) (λ i. refl) held);
     }

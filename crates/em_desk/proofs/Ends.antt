@@ -49,7 +49,8 @@ use Rattle.em_desk.specs.Acts.{AreReleases}
 use Rattle.em_desk.specs.Orders.{OrdersStand}
 use Rattle.em_desk.specs.Standing.{Stands, IsReleasing}
 use Rattle.em_desk.specs.State.{MayAsk}
-use Rattle.em_desk.proofs.Asked.{steps_of, kept-same}
+use Rattle.em_desk.proofs.Asked.{steps_of, kept-same, asked-small}
+use Rattle.em_desk.proofs.StampsKept.{stamps-set}
 use Rattle.em_desk.proofs.Begun.{pushed, IsCause, begun, untaken, atomics, all-with, HasRoom, has-room-by, settled-pools, settled-queues}
 use Rattle.em_desk.proofs.Contexts.{opening-other}
 use Rattle.em_bounds.proofs.Room.{needed-end}
@@ -200,11 +201,12 @@ ends-context p c lost cells s = record { steps = λ t. refl; lets_in = (alike p 
 pub end-stands : (p q : Parts) (c lost : ℕ) (cells : Option Cells) → Stands p → MayAsk p.declarations p.history.past c (Ask.End cells) → lost ≡ length (held p.history.past c)
     → pools.Stands q.pools (Lost c (length p.history.past) ∷ steps_of p) → q.pools.pools ≡ p.pools.pools → q.pools.spare ≡ p.pools.spare
     → AtomicsStand p.declarations q.atomics (ended_steps true cells c (atomic_steps p.declarations p.history.past))
-    → q.contexts.items ≡ slice_set p.contexts.items c Opening.Closed → IsEnded p q.orders c (end_of_context lost cells)
-    → IsReleasing (record p { history = pushed p c (end_of_context lost cells); pools = q.pools; atomics = q.atomics; orders = q.orders; contexts = q.contexts }) c (ending_acts p c (end_of_context lost cells)) []
-end-stands p q c lost cells s may count stands shapes spare given opens ended =
+    → q.contexts.items ≡ slice_set p.contexts.items c Opening.Closed
+    → q.stamps.events.items ≡ p.stamps.events.items → q.stamps.contexts.items ≡ slice_set p.stamps.contexts.items c None → IsEnded p q.orders c (end_of_context lost cells)
+    → IsReleasing (record p { history = pushed p c (end_of_context lost cells); pools = q.pools; atomics = q.atomics; orders = q.orders; stamps = q.stamps; contexts = q.contexts }) c (ending_acts p c (end_of_context lost cells)) []
+end-stands p q c lost cells s may count stands shapes spare given opens stamps left ended =
     record {
-      standing = begun p (record p { pools = q.pools; atomics = q.atomics; orders = q.orders; contexts = q.contexts }) 0 c (What.End lost cells) acts [] (length q.orders.due) s may.core
+      standing = begun p (record p { pools = q.pools; atomics = q.atomics; orders = q.orders; stamps = q.stamps; contexts = q.contexts }) 0 c (What.End lost cells) acts [] (length q.orders.due) s may.core
           (Asks (Ask.End cells) may.may (end-gives p c lost cells count)) refl (end-cause p c lost cells s may) (core-tail p.declarations c acts [] may.core)
           (record {
             pools = stands;
@@ -217,6 +219,7 @@ end-stands p q c lost cells s may count stands shapes spare given opens ended =
               count = s.groups.count;
             };
             orders = ended.orders;
+            stamps = stamps-set p.declarations p.limits p.stamps q.stamps p.history.past c w None (asked-small p s) (all-with p 0 c w s may.core (Asks (Ask.End cells) may.may (end-gives p c lost cells count))) refl (λ o. refl) stamps left s.stamps;
             ready = releases-ready p (Lost c (length p.history.past) ∷ steps_of p) (let_in_by p c w) s (λ i r there. not-lost i r there) held (λ h. let-in-once p c w (open_ticket p.history.past c) h s moment);
             kept = kept-same p.declarations p.history.past (entry_by c (What.End lost cells) ∷ p.history.past) p.kept (λ x. refl) s.kept;
             cores = ap length opens ∙ length-set p.contexts.items c Opening.Closed;

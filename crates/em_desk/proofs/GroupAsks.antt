@@ -29,9 +29,15 @@ use Rattle.em_desk.specs.declared.parts.Parts.{Parts}
 use Rattle.em_desk.specs.Groups.{GroupsStand}
 use Rattle.em_desk.specs.Notes.{notes_refusal}
 use Rattle.em_desk.specs.Served.{is_served_entry}
+use Rattle.em_desk.specs.Stamps.{unstamped, StampsStand}
 use Rattle.em_desk.specs.Standing.{Stands}
 use Rattle.em_desk.specs.State.{MayAsk}
-use Rattle.em_desk.proofs.Asked.{steps_of, own-lead, kept-same}
+use Rattle.em_desk.proofs.Asked.{steps_of, own-lead, kept-same, asked-small}
+use Rattle.em_desk.proofs.FreedNotes.{note-below}
+use Rattle.em_desk.proofs.StampsKept.{stamps-noted}
+use Rattle.em_laws.proofs.Spent.{notes-usable}
+use Rattle.em_places.proofs.Parked.{parked-sit}
+use Rattle.em_places.proofs.Spending.{in-hand}
 use Rattle.em_desk.proofs.Begun.{pushed, IsCause, IsAsked, asked-begun, at-rest, settled-pools, settled-queues}
 use Rattle.em_desk.proofs.HandedNotes.{notes-alike}
 use Rattle.em_desk.proofs.Minting.{few-entries}
@@ -124,14 +130,28 @@ application-number p a g s answer =
 pub apply-cause : (k : Declarations) (past : Past) (c a n : ℕ) (g : EventGroupId) (notes : List Note) → IsCause k past c (apply_of g a n notes) []
 apply-cause k past c a n g notes = record { pools = λ s. refl; queues = λ t. refl; tail = refl }
 
+-- the events of the notes have no stamp
+pub apply-stamps : (p q : Parts) (c a n place : ℕ) (g : EventGroupId) (notes : List Note) → Stands p → place ≡ length p.history.past
+    → ((s : List PoolStep) → pools.Stands p.pools s → None ≡ notes_refusal s c place [] notes)
+    → q.stamps.events.items ≡ unstamped notes p.stamps.events.items → q.stamps.contexts.items ≡ p.stamps.contexts.items
+    → StampsStand p.declarations q.stamps (entry_by c (apply_of g a n notes) ∷ p.history.past)
+apply-stamps p q c a n place g notes s at answer events contexts =
+    let small = asked-small p s in
+    let sit = parked-sit p.declarations p.limits p.history.past small s.all in
+    let ok = notes-usable p.history.past c [] notes (notes-told p c place notes None s at answer) in
+    stamps-noted p.declarations p.stamps q.stamps p.history.past c (apply_of g a n notes) notes sit ok
+    (λ f there. let hand = in-hand p.declarations p.history.past c f (ok f there) sit in note-below p.declarations p.limits p.history.past f _ small s.all hand.sits)
+    refl (λ h. refl) refl (λ o. refl) events contexts s.stamps
+
 -- an entry of an event group that spends these words, and leaves nothing to do
 pub apply-stands : (p q : Parts) (c a n : ℕ) (g : EventGroupId) (notes : List Note) → Stands p → IsAsked p c (Ask.Apply g n notes) (apply_of g a n notes)
     → IsTrue (is_served_entry p.declarations (apply_of g a n notes)) → pools.Stands q.pools (noted_steps c (length p.history.past) notes (steps_of p))
     → q.pools.pools ≡ p.pools.pools → q.pools.spare ≡ p.pools.spare → GroupsStand p.declarations q.groups (entry_by c (apply_of g a n notes) ∷ p.history.past)
-    → Stands (record p { history = pushed p c (apply_of g a n notes); pools = q.pools; groups = q.groups })
-apply-stands p q c a n g notes s e served stands shapes spare groups =
-    at-rest (record p { history = pushed p c (apply_of g a n notes); pools = q.pools; groups = q.groups }) c
+    → StampsStand p.declarations q.stamps (entry_by c (apply_of g a n notes) ∷ p.history.past)
+    → Stands (record p { history = pushed p c (apply_of g a n notes); pools = q.pools; groups = q.groups; stamps = q.stamps })
+apply-stands p q c a n g notes s e served stands shapes spare groups stamps =
+    at-rest (record p { history = pushed p c (apply_of g a n notes); pools = q.pools; groups = q.groups; stamps = q.stamps }) c
     (asked-begun p (record q { queues = p.queues; atomics = p.atomics; orders = p.orders; kept = p.kept }) c (Ask.Apply g n notes) (apply_of g a n notes) [] [] 0 s e served
     (apply-cause p.declarations p.history.past c a n g notes) tt stands shapes (omega (arith, spare)) (settled-queues p 0 s) refl s.atomics groups
     (orders-kept p.declarations p.orders p.history.past c (apply_of g a n notes) 0 refl s.orders) tt
-    (kept-same p.declarations p.history.past (entry_by c (apply_of g a n notes) ∷ p.history.past) p.kept (λ x. refl) s.kept))
+    (kept-same p.declarations p.history.past (entry_by c (apply_of g a n notes) ∷ p.history.past) p.kept (λ x. refl) s.kept) stamps)

@@ -7,6 +7,8 @@ mod Rooms
 mod Contexts
 mod GroupsKept
 mod OrdersKept
+mod StampsKept
+mod EnteredStamps
 mod Begun
 mod HandedNotes
 mod GroupAsks

@@ -140,6 +140,7 @@ performed p q c a acts rest n s pool_stands shapes spare queue_stands same = by_
           atomics = s.atomics;
           groups = s.groups;
           orders = s.orders;
+          stamps = s.stamps;
           ready = ready;
           kept = s.kept;
           cores = s.cores;

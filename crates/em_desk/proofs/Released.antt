@@ -46,6 +46,7 @@ with-orders p x c acts rest n m s orders =
       atomics = s.atomics;
       groups = s.groups;
       orders = orders;
+      stamps = s.stamps;
       ready = s.ready;
       kept = s.kept;
       cores = s.cores;

@@ -1,5 +1,5 @@
 -- What a send leaves to do.
-use Rattle.std.proofs.Common.{◌≡◌, ℕ, ◌<◌, ◌==◌, Bool, true, false, nat_le, nat_lt, IsTrue, if◌then◌else◌, ◌||◌, ◌&&◌, [], ◌∷◌, List, length, map, Option, Some, None, is_none, is_some, refl, ap, sym, ◌∙◌, subst, arith}
+use Rattle.std.proofs.Common.{◌≡◌, ℕ, ◌<◌, ◌==◌, Bool, true, false, nat_le, nat_lt, IsTrue, if◌then◌else◌, ◌||◌, ◌&&◌, [], ◌∷◌, List, length, map, Option, Some, None, is_none, is_some, refl, ap, sym, ◌∙◌, subst, arith, slice_set}
 use Rattle.std.specs.Option.{option_map, option_map_or, option_or, option_and_then}
 use Rattle.std.proofs.lemmas.Bool.{eq-eqb, ltb-true}
 use Rattle.em_log.specs.declared.ask.Ask.{Ask}
@@ -55,7 +55,8 @@ use Rattle.em_desk.specs.State.{MayAsk}
 use Rattle.em_desk.proofs.Served.{closed-declared}
 use Rattle.em_desk.proofs.OpenTickets.{settled-orders, alike, owned}
 use Rattle.em_desk.proofs.Listed.{Located, InQueue as ListedQueue, IsTaken, located}
-use Rattle.em_desk.proofs.Asked.{steps_of, own-lead, kept-same}
+use Rattle.em_desk.proofs.Asked.{steps_of, own-lead, kept-same, asked-small}
+use Rattle.em_desk.proofs.StampsKept.{stamps-sent}
 use Rattle.em_desk.proofs.GroupsKept.{groups-kept}
 use Rattle.em_desk.proofs.Begun.{pushed, IsCause, IsAsked, asked-begun, settled-pools, settled-queues}
 
@@ -267,10 +268,12 @@ pub record AreSent (p q : Parts) (c w : ℕ) (to : QueueId) (way : Way) : Type 0
   pub spare : q.pools.spare ≡ p.pools.spare
   pub orders : (s : List OrderStep) → order.Stands p.orders s → order.Stands q.orders (Sent c (sent_item w to c) ∷ s)
   pub order_shape : shape q.orders ≡ shape p.orders
+  pub stamps : q.stamps.events.items ≡ slice_set p.stamps.events.items (index_of w) None
+  pub contexts : q.stamps.contexts.items ≡ p.stamps.contexts.items
 
 send-stands : (p q : Parts) (c w : ℕ) (to : QueueId) (way : Way) (o : IsOurs p.declarations p.history.past w) → Stands p → MayAsk p.declarations p.history.past c (Ask.Send w to None)
     → rule p.history.past c w ≡ None → index_of w < event_total p.declarations.pools → to.0 < length p.declarations.queues → AreSent p q c w to way
-    → Releasing (record p { history = pushed p c (send_of w to (open_number p.history.past c)); pools = q.pools; orders = q.orders }) c (sent_acts way (send_act p.declarations o.minter.event c w to)) 0
+    → Releasing (record p { history = pushed p c (send_of w to (open_number p.history.past c)); pools = q.pools; orders = q.orders; stamps = q.stamps }) c (sent_acts way (send_act p.declarations o.minter.event c w to)) 0
 send-stands p q c w to way ours s may ok inside queue a =
     let n = open_number p.history.past c in
     asked-begun p (record q { queues = p.queues; atomics = p.atomics; groups = p.groups; kept = p.kept }) c (Ask.Send w to None) (send_of w to n) (sent_acts way (send_act p.declarations ours.minter.event c w to)) [] 0 s
@@ -287,6 +290,8 @@ send-stands p q c w to way ours s may ok inside queue a =
     (subst (λ (how : Spend). AreReady p.declarations (Spent c w how (length p.history.past) ∷ steps_of p) (queue_steps p.declarations p.history.past) (sent_acts way (send_act p.declarations ours.minter.event c w to))) (sym (how-of way a.goes))
     (send-ready p ours.minter.event c w to way s inside may.core queue (is-unlisted p w s ours)))
     (kept-same p.declarations p.history.past (entry_by c (send_of w to n) ∷ p.history.past) p.kept (λ x. refl) s.kept)
+    (stamps-sent p.declarations p.stamps q.stamps p.history.past c (send_of w to n) w None (parked-sit p.declarations p.limits p.history.past (asked-small p s) s.all) ok inside refl (λ h. refl) refl (λ o. refl)
+    a.stamps a.contexts s.stamps)
   where
     core-of : (way : Way) → IsCore p.declarations c (sent_acts way (send_act p.declarations ours.minter.event c w to)) []
     core-of Way.Enter = may.core
@@ -299,12 +304,12 @@ send-stands p q c w to way ours s may ok inside queue a =
 
 pub send-begun : (p q : Parts) (c w : ℕ) (to : QueueId) (way : Way) (e : Event) → Stands p → MayAsk p.declarations p.history.past c (Ask.Send w to None) → rule p.history.past c w ≡ None
     → index_of w < event_total p.pools.pools → to.0 < length p.declarations.queues → event_at p.pools (index_of w) ≡ Some e → AreSent p q c w to way
-    → Releasing (record p { history = pushed p c (send_of w to (open_number p.history.past c)); pools = q.pools; orders = q.orders }) c (sent_acts way (send_act p.declarations e c w to)) 0
+    → Releasing (record p { history = pushed p c (send_of w to (open_number p.history.past c)); pools = q.pools; orders = q.orders; stamps = q.stamps }) c (sent_acts way (send_act p.declarations e c w to)) 0
 send-begun p q c w to way e s may ok within queue event a =
     let ours = is-ours p c w s ok in
     let inside : index_of w < event_total p.declarations.pools = subst (λ ps. index_of w < event_total ps) s.pool_shape within in
     let same : ours.minter.event ≡ e = some-inj _ _ (sym (event-is p w s ours) ∙ event) in
-    subst (λ (e : Event). Releasing (record p { history = pushed p c (send_of w to (open_number p.history.past c)); pools = q.pools; orders = q.orders }) c (sent_acts way (send_act p.declarations e c w to)) 0) same
+    subst (λ (e : Event). Releasing (record p { history = pushed p c (send_of w to (open_number p.history.past c)); pools = q.pools; orders = q.orders; stamps = q.stamps }) c (sent_acts way (send_act p.declarations e c w to)) 0) same
     (send-stands p q c w to way ours s may ok inside queue a)
 
 -- the queue is declared

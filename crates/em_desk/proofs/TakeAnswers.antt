@@ -15,6 +15,7 @@ use Rattle.em_log.specs.declared.entry.Event.{Event}
 use Rattle.em_desk.specs.declared.opening.Opening.{Opening}
 use Rattle.em_desk.specs.declared.desk.Desk.TheInside.{Inside}
 use Rattle.em_log.specs.declared.ids.QueueId.{QueueId}
+use Rattle.em_log.specs.declared.ids.Stamp.{Stamp}
 use Rattle.em_log.specs.History.{Past, entry_by}
 use Rattle.em_log.specs.Declarations.{below, numbers_from}
 use Rattle.em_log.specs.Contexts.{context, boot_ended}
@@ -68,8 +69,8 @@ pub over-by : (p : Parts) (os : List Opening) (e b : Bool) → Stands p → e �
     → b ≡ is_boot (opening_at os 0) → b ≡ false → boot_ended p.history.past ≡ true
 over-by p os e b s empty some same is off = boot-over p s (boots-by p os b false same is off) (some-entries p.history.past e empty some)
 
-abbrev pub receive_of : QueueId → EoId → Event → Option ℕ → Option Cells → Context
-receive_of q x e n cells = Context.Receive (record { queue = q; eo = x; event = e; stamp = None; ticket = n; cells = cells; rest = [] })
+abbrev pub receive_of : QueueId → EoId → Event → Option Stamp → Option ℕ → Option Cells → Context
+receive_of q x e t n cells = Context.Receive (record { queue = q; eo = x; event = e; stamp = t; ticket = n; cells = cells; rest = [] })
 
 -- the core owes no step
 unowed : (p : Parts) (n : ℕ) (answer : Answer) (r : Reply) → Stands p → r ≡ record { answer = answer; owed = false } → r.owed ≡ is_some (step p.declarations p.history.past n)

@@ -8,7 +8,9 @@ use Rattle.em_log.specs.declared.fault.Fault.{Fault}
 use Rattle.em_log.specs.declared.ids.EventGroupId.{EventGroupId}
 use Rattle.em_log.specs.declared.ids.Limits.{Limits}
 use Rattle.em_log.specs.declared.ids.QueueId.{QueueId}
+use Rattle.em_log.specs.declared.ids.Stamp.{Stamp}
 use Rattle.em_log.specs.History.{Past, entry_by, entries_by}
+use Rattle.em_log.specs.EventGroups.{stamp_after}
 use Rattle.em_log.specs.Contexts.{context, context_after}
 use Rattle.em_log.specs.Operations.{Operation, operation, begun_by}
 use Rattle.em_log.specs.Places.{started, started_after, kept}
@@ -19,6 +21,7 @@ use Rattle.em_bounds.specs.Paid.{pays}
 use Rattle.em_bounds.specs.Room.{needed, lefts, left_open}
 use Rattle.em_log.specs.Declarations.{below}
 use Rattle.em_bounds.proofs.Sums.{sum-same}
+use Rattle.em_laws.specs.Minted.{HasSmallIndices}
 use Rattle.em_laws.proofs.Cores.{Compared, Same, Other, compared}
 use Rattle.em_pool.specs.Steps.{PoolStep}
 use Rattle.em_pool.specs.Stands as pools
@@ -36,6 +39,7 @@ use Rattle.em_desk.specs.declared.acts.Act.{Act}
 use Rattle.em_desk.specs.declared.parts.Parts.{Parts}
 use Rattle.em_desk.specs.Acts.{said_then, pool_acts, queue_acts, MaySay, AreReady}
 use Rattle.em_desk.specs.Served.{is_served_entry}
+use Rattle.em_desk.specs.Stamps.{may_enter}
 use Rattle.em_desk.specs.Standing.{Ending, IsCore, shape_of}
 use Rattle.em_desk.specs.Atomics.{AtomicsStand}
 use Rattle.em_desk.proofs.Asked.{kept-same}
@@ -43,6 +47,7 @@ use Rattle.em_desk.proofs.Begun.{HasRoom, has-room-by}
 use Rattle.em_desk.proofs.Contexts.{opening-stays}
 use Rattle.em_desk.proofs.GroupsKept.{groups-kept}
 use Rattle.em_desk.proofs.OrdersKept.{orders-kept}
+use Rattle.em_desk.proofs.StampsKept.{stamps-same}
 
 -- an entry that follows in its ask, and changes neither contexts, atomic contexts, event groups, tickets nor what objects keep
 pub record IsTold (w : What) : Type 0 where
@@ -56,6 +61,8 @@ pub record IsTold (w : What) : Type 0 where
   pub atomics : touches_atomics w ≡ false
   pub groups : touches_egroups w ≡ false
   pub orders : touches_orders w ≡ false
+  pub enters : may_enter w ≡ false
+  pub stamp : (o : Option Stamp) → stamp_after w o ≡ o
 
 -- it costs nothing
 
@@ -135,6 +142,7 @@ told p q c w acts next rest left n t s core first none m =
       atomics = subst (AtomicsStand k p.atomics) (sym (atomics-untouched k past c w (atomic_steps k past) t.atomics)) s.atomics;
       groups = groups-kept k p.groups past c w t.groups s.groups;
       orders = orders-kept k p.orders past c w n t.orders s.orders;
+      stamps = stamps-same k p.limits p.stamps past c w small (told-all k p.limits past c w _ core s.all first) t.enters t.stamp s.stamps;
       ready = m.ready;
       kept = kept-same k past (e ∷ past) p.kept (t.kept k past c) s.kept;
       cores = s.cores;
@@ -154,6 +162,9 @@ told p q c w acts next rest left n t s core first none m =
 
     e : Entry
     e = entry_by c w
+
+    small : HasSmallIndices k
+    small = let few = s.fixed.graph.events in omega (arith, few)
 
     same : lefts k (e ∷ past) ≡ lefts k past
     same = told-lefts k past c w _ t first
@@ -179,6 +190,8 @@ out-told q kind words = record {
   atomics = refl;
   groups = refl;
   orders = refl;
+  enters = refl;
+  stamp = λ o. refl;
 }
 
 lost-told : (q : QueueId) → IsTold (What.Fault Call.Note (Fault.NoteLost q) None)
@@ -193,6 +206,8 @@ lost-told q = record {
   atomics = refl;
   groups = refl;
   orders = refl;
+  enters = refl;
+  stamp = λ o. refl;
 }
 
 pub notify-told : (g : EventGroupId) (a : ℕ) → IsTold (What.Notify g a)
@@ -207,6 +222,8 @@ notify-told g a = record {
   atomics = refl;
   groups = refl;
   orders = refl;
+  enters = refl;
+  stamp = λ o. refl;
 }
 
 pub act-told : (w : What) → MaySay (Some w) → IsToldByAct w

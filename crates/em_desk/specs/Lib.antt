@@ -9,6 +9,7 @@ pub mod Orders
 pub mod Acts
 pub mod Groups
 pub mod Notes
+pub mod Stamps
 pub mod Standing
 pub mod Choices
 pub mod Answers

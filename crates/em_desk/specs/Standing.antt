@@ -24,6 +24,7 @@ use Rattle.em_desk.specs.Graphs.{AreInBounds, AreInRange}
 use Rattle.em_desk.specs.Served.{AllServed}
 use Rattle.em_desk.specs.Groups.{GroupsStand}
 use Rattle.em_desk.specs.Orders.{OrdersStand}
+use Rattle.em_desk.specs.Stamps.{StampsStand}
 use Rattle.em_desk.specs.Acts.{said_then, pool_acts, queue_acts, AreReady, AreReleases}
 use Rattle.em_desk.specs.Lines.{LinesState, list_at}
 use Rattle.em_desk.specs.Openings.{opening_at, opening_of}
@@ -78,6 +79,7 @@ pub record Ending (p : Parts) (c : ℕ) (acts : List Act) (rest : List What) (n 
   pub atomics : AtomicsStand p.declarations p.atomics (atomic_steps p.declarations p.history.past)
   pub groups : GroupsStand p.declarations p.groups p.history.past
   pub orders : OrdersStand p.declarations p.orders p.history.past n
+  pub stamps : StampsStand p.declarations p.stamps p.history.past
   pub ready : AreReady p.declarations pool queue acts
   pub kept : AreKept p.declarations p.history.past p.kept
   pub cores : length p.contexts.items ≡ p.declarations.cores

@@ -30,6 +30,7 @@ impl Parts {
             return self.refuse(core, Call::Apply, fault);
         }
         spend(&mut self.pools, core, place, notes.as_slice());
+        self.stamps.hand_in(notes.as_slice());
         let app = self.groups.apply(group, count, notes.copy());
         self.history.push(
             core,

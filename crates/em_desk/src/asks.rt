@@ -119,6 +119,7 @@ impl Parts {
         let way = self.orders.send(core, Item { index, queue, core });
         let act = sending(&self.declarations, &self.pools, core, word, queue);
         self.pools.spend(core, word, spending(way, queue), place);
+        self.stamps.set(index, None);
         self.history.push(
             core,
             What::Send {
@@ -263,6 +264,7 @@ impl Parts {
         let lost = self.pools.lose(core, place);
         self.atomics.give_back(core, cells);
         let _ended = self.orders.finish(core);
+        let _left = self.stamps.leave(core);
         self.history.push(core, What::End { lost, cells });
         self.contexts[usize::from(core.0)] = Opening::Closed;
         self.release(core);

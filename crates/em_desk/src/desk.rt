@@ -23,6 +23,7 @@ use crate::opening::{closed, is_booting};
 use crate::outcome::reply;
 use crate::parts::Parts;
 use crate::shapes::{event_count, object_of};
+use crate::stamps::Stamps;
 use crate::takes::Received;
 use em_egroups::EventGroups;
 use em_log::{
@@ -67,6 +68,7 @@ impl Desk {
         let groups = EventGroups::build(alloc, config)?;
         let orders = Orders::build(alloc, config)?;
         let events = event_count(&declarations);
+        let stamps = Stamps::build(alloc, events, declarations.cores)?;
         let kept = Lines::build(alloc, declarations.running.as_slice().len() as u16, events)?;
         let contexts = closed(alloc, declarations.cores)?;
         Ok(Desk {
@@ -80,6 +82,7 @@ impl Desk {
                 atomics,
                 groups,
                 orders,
+                stamps,
                 kept,
                 contexts,
                 started: 0,
@@ -120,11 +123,12 @@ impl Desk {
         };
         let Received {
             event,
+            stamp,
             ticket,
             cells,
         } = self.parts.receive(core, queue);
         let object = object_of(&self.parts.declarations, queue);
-        Ok(told(received(queue, object, event, ticket, cells)))
+        Ok(told(received(queue, object, event, stamp, ticket, cells)))
     }
 
     /// An ask of the core's open context, which has enough left of its allowance. It adds the entry that the ask gives

@@ -1,10 +1,10 @@
 //! Replies to a take.
-ghost use Rattle.std.specs.Prelude.{◌≡◌, [], false, None};
+ghost use Rattle.std.specs.Prelude.{◌≡◌, [], false};
 ghost use Rattle.em_log.specs.declared.ask.Answer.{Answer as TheAnswer};
 ghost use Rattle.em_desk.specs.Answers.{rest_of};
 ghost use Rattle.em_log.specs.declared.ask.Context.{Context as TheContext};
 
-use em_log::{Answer, Cells, Context, EndKind, EoId, Event, QueueId, Receive, Reply, Rest};
+use em_log::{Answer, Cells, Context, EndKind, EoId, Event, QueueId, Receive, Reply, Rest, Stamp};
 
 /// A reply after which no step is owed.
 pub fn told(answer: Answer) -> Reply
@@ -32,16 +32,17 @@ pub fn received(
     queue: QueueId,
     eo: EoId,
     event: Event,
+    stamp: Option<Stamp>,
     ticket: Option<u32>,
     cells: Option<Cells>,
 ) -> Answer
-    ensures { result ≡ TheAnswer.Context (TheContext.Receive (record { queue = queue; eo = eo; event = event; stamp = None; ticket = ticket; cells = cells; rest = [] })) }
+    ensures { result ≡ TheAnswer.Context (TheContext.Receive (record { queue = queue; eo = eo; event = event; stamp = stamp; ticket = ticket; cells = cells; rest = [] })) }
 {
     Answer::Context(Context::Receive(Receive {
         queue,
         eo,
         event,
-        stamp: None,
+        stamp,
         ticket,
         cells,
         rest: Rest::new(),

@@ -16,6 +16,7 @@ mod opening;
 mod outcome;
 mod parts;
 mod shapes;
+mod stamps;
 mod takes;
 mod tickets;
 

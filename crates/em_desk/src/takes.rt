@@ -25,9 +25,9 @@ ghost use Rattle.em_desk.specs.Standing.{Stands};
 use crate::choices::any_ready;
 use crate::opening::{Opening, are_closed};
 use crate::parts::Parts;
-use crate::shapes::object_of;
+use crate::shapes::{index_of, object_of};
 use crate::tickets::draw;
-use em_log::{Body, Cells, CoreId, EndKind, Event, MAX_CORES, NoMemory, QueueId, What};
+use em_log::{Body, Cells, CoreId, EndKind, Event, MAX_CORES, NoMemory, QueueId, Stamp, What};
 use em_pool::{Place, Pools};
 use em_queues::Queues;
 
@@ -35,11 +35,12 @@ use em_queues::Queues;
 /// each, and the allowance of each core.
 const ROOM: usize = 4 + 256 * MAX_CORES as usize;
 
-/// What a receive comes with: its event, the number of its ticket, if it draws one, and the cells of its atomic context, if
-/// it has one.
+/// What a receive comes with: its event, the stamp that this was sent with, if it has one, the number of its ticket, if it
+/// draws one, and the cells of its atomic context, if it has one.
 #[derive(Drop)]
 pub struct Received {
     pub event: Event,
+    pub stamp: Option<Stamp>,
     pub ticket: Option<u32>,
     pub cells: Option<Cells>,
 }
@@ -137,7 +138,7 @@ impl Parts {
         ensures stands { Stands self.new }
         ensures past { self.new.history.past ≡ block self.old.declarations self.old.history.past (entry_by core.0 (TheWhat.Take queue 1 result.ticket)) }
         ensures number { result.ticket ≡ ticket_drawn self.old.declarations self.old.history.past queue.0 }
-        ensures told { context_told self.old.declarations self.new.history.past core.0 ≡ Some (TheContext.Receive (record { queue = queue; eo = object_id (object_of_queue self.old.declarations queue.0); event = result.event; stamp = None; ticket = result.ticket; cells = result.cells; rest = [] })) }
+        ensures told { context_told self.old.declarations self.new.history.past core.0 ≡ Some (TheContext.Receive (record { queue = queue; eo = object_id (object_of_queue self.old.declarations queue.0); event = result.event; stamp = result.stamp; ticket = result.ticket; cells = result.cells; rest = [] })) }
         ensures declarations { self.new.declarations ≡ self.old.declarations }
         ensures limits { self.new.limits ≡ self.old.limits }
     {
@@ -151,13 +152,14 @@ impl Parts {
             },
         );
         let event = start(&mut self.pools, &mut self.queues, core, queue);
+        let stamp = self.stamps.begin(core, index_of(event.handle.0));
         let cells = self.atomics.grab(queue, core);
         self.history.push(
             core,
             What::Start {
                 queue,
                 event: event.copy(),
-                stamp: None,
+                stamp,
             },
         );
         self.contexts[usize::from(core.0)] = Opening::Body(Some(object_of(
@@ -167,6 +169,7 @@ impl Parts {
         self.started += 1;
         Received {
             event,
+            stamp,
             ticket,
             cells,
         }

@@ -1,4 +1,4 @@
-use Rattle.std.proofs.Common.{◌≡◌, ◌∙◌, [], List, Bool, length, refl, ap, sym, subst}
+use Rattle.std.proofs.Common.{◌≡◌, ◌∙◌, [], List, Bool, None, length, replicate, refl, ap, sym, subst}
 use Rattle.std.proofs.lemmas.List.{length-map}
 use Rattle.em_log.specs.declared.declarations.Declarations.{Declarations}
 use Rattle.em_log.specs.declared.graph.Config.{Config}
@@ -38,6 +38,7 @@ invariant_of-result c =
     (c.in_ok-queues.ensures.shape ∙ (shape-declared c.args.config.now ∙ ap shape_of (sym is))) c.in_ok-atomics.ensures
     (record { steps = c.in_ok-groups.ensures.stands; count = c.in_ok-groups.ensures.len ∙ sym (ap (λ (k : Declarations). k.egroups) is) }) c.in_ok-orders.ensures.stands
     (c.in_ok-orders.ensures.shape ∙ (orders-declared c.args.config.now ∙ ap order_shape (sym is)))
+    (c.in_ok-stamps.ensures.events ∙ ap (λ (n : ℕ). replicate n None) c.event_count-events.ensures) c.in_ok-stamps.ensures.contexts
     (c.in_ok-kept.ensures.lists ∙ ap (λ (rs : List Bool). empty_lists (length rs)) c.as_slice.ensures)
     (c.in_ok-kept.ensures.room ∙ c.event_count-events.ensures)
     c.in_ok-contexts.ensures refl

@@ -90,17 +90,18 @@ returns-clause-takes c =
     let e = c.make_room.ensures in
     let q = c.in-Some.queue in
     let event = c.receive-event.result.event in
+    let stamp = c.receive-event.result.stamp in
     let ticket = c.receive-event.result.ticket in
     let cells = c.receive-event.result.cells in
     let object : c.object_of-object.result ≡ object_id (object_of p.declarations q.0) =
     c.object_of-object.ensures ∙ ap (λ (k : Declarations). object_id (object_of k q.0)) c.receive-event.ensures.declarations in
-    takes-by c.args.self.now p c.args.core.0 (Answer.Context (receive_of q (object_id (object_of p.declarations q.0)) event ticket cells)) c.told-2.result.answer c.receive-event.new.self.history.past
+    takes-by c.args.self.now p c.args.core.0 (Answer.Context (receive_of q (object_id (object_of p.declarations q.0)) event stamp ticket cells)) c.told-2.result.answer c.receive-event.new.self.history.past
     (same-seen c.self.inside p c.args.self.now c.self.view_is c.if-self.false e.declarations e.limits e.past)
-    (receives-now p c.args.core.0 q ticket (receive_of q (object_id (object_of p.declarations q.0)) event ticket cells) c.receive-event.new.self.history.past e.stands
+    (receives-now p c.args.core.0 q ticket (receive_of q (object_id (object_of p.declarations q.0)) event stamp ticket cells) c.receive-event.new.self.history.past e.stands
     (over-by p c.as_slice.result.now c.is_empty.result c.is_booting.result e.stands c.is_empty.ensures c.if-is_empty.false
     c.as_slice.ensures.value c.is_booting.ensures c.if-is_booting.false)
     c.in-Some.ensures (is-first p c.args.core.0 q e.stands c.in-Some.ensures) c.receive-event.ensures.number c.receive-event.ensures.past c.receive-event.ensures.told)
-    (ap (λ (r : Reply). r.answer) c.told-2.ensures ∙ (c.received.ensures ∙ ap (λ (x : EoId). Answer.Context (receive_of q x event ticket cells)) object))
+    (ap (λ (r : Reply). r.answer) c.told-2.ensures ∙ (c.received.ensures ∙ ap (λ (x : EoId). Answer.Context (receive_of q x event stamp ticket cells)) object))
 
 pub returns-clause-owed : goal.returns-clause-owed
 returns-clause-owed c =

@@ -11,7 +11,8 @@ use Rattle.em_desk.specs.Histories.{HistoryState}
 use Rattle.em_desk.specs.Standing.{Stands}
 use Rattle.em_desk.proofs.Asked.{steps_of, adds-none}
 use Rattle.em_desk.proofs.Begun.{IsAsked, asked-room, settled-pools}
-use Rattle.em_desk.proofs.GroupAsks.{apply_of, few-applications, apply-refused, apply-noted, notes-read, apply-asked, application-number, apply-cause, apply-stands}
+use Rattle.em_desk.proofs.GroupAsks.{apply-stamps, apply_of, few-applications, apply-refused, apply-noted, notes-read, apply-asked, application-number, apply-cause, apply-stands}
+use Rattle.em_desk.specs.Stamps.{unstamped}
 use Rattle.em_desk.proofs.parts.Parts.apply.Goals.{After-push-arg-1, After-push}
 use Rattle.em_desk.proofs.parts.Parts.apply.Goals as goal
 
@@ -87,7 +88,7 @@ returns-clause-stands c =
     let n = c.args.core.0 in
     let s = c.requires.stands in
     let w = apply_of c.args.group c.apply-app.result c.args.count c.args.notes in
-    let q : Parts = record p { pools = c.spend.new.pools; groups = c.apply-app.new.self } in
+    let q : Parts = record p { pools = c.spend.new.pools; groups = c.apply-app.new.self; stamps = c.hand_in.new.self } in
     let spent : pools.Stands c.spend.new.pools (noted_steps n c.place-place.result c.as_slice-2.result.now (steps_of p)) = c.spend.ensures.stands (steps_of p) (settled-pools p 0 s) in
     let read : pools.Stands c.spend.new.pools (noted_steps n c.place-place.result c.args.notes (steps_of p)) =
     subst (λ ns. pools.Stands c.spend.new.pools (noted_steps n c.place-place.result ns (steps_of p))) c.as_slice-2.ensures.value spent in
@@ -96,9 +97,12 @@ returns-clause-stands c =
     let begun : groups.Stands c.apply-app.new.self (Applied c.args.group.0 c.args.count c.args.notes ∷ egroup_steps p.history.past) =
     subst (λ (ns : List Note). groups.Stands c.apply-app.new.self (Applied c.args.group.0 c.args.count ns ∷ egroup_steps p.history.past)) c.copy.ensures
     (c.apply-app.ensures.stands (egroup_steps p.history.past) s.groups.steps) in
-    subst (λ (h : HistoryState). Stands (record p { history = h; pools = c.spend.new.pools; groups = c.apply-app.new.self })) (sym c.push.ensures)
+    subst (λ (h : HistoryState). Stands (record p { history = h; pools = c.spend.new.pools; groups = c.apply-app.new.self; stamps = c.hand_in.new.self })) (sym c.push.ensures)
     (apply-stands p q n c.apply-app.result c.args.count c.args.group c.args.notes s (asked c) c.requires.may.served now c.spend.ensures.shapes c.spend.ensures.spare
-    (record { steps = begun; count = c.apply-app.ensures.same_shape ∙ s.groups.count }))
+    (record { steps = begun; count = c.apply-app.ensures.same_shape ∙ s.groups.count })
+    (apply-stamps p q n c.apply-app.result c.args.count c.place-place.result c.args.group c.args.notes s c.place-place.ensures
+    (notes-read p n c.place-place.result c.as_slice.result.now c.args.notes None c.as_slice.ensures.value (λ s stands. sym c.in_default-refusal.is ∙ c.refusal.ensures s stands))
+    (c.hand_in.ensures.events ∙ ap (λ (ns : List Note). unstamped ns p.stamps.events.items) c.as_slice-3.ensures.value) c.hand_in.ensures.contexts))
 
 pub returns-clause-adds : goal.returns-clause-adds
 returns-clause-adds c =

@@ -31,7 +31,7 @@ release-requires c =
     let n = c.args.core.0 in
     let s = c.requires.stands in
     let w = end_of_context c.lose-lost.result c.args.cells in
-    let q : Parts = record p { pools = c.lose-lost.new.self; atomics = c.give_back.new.self; orders = c.finish-ended.new.self; contexts = with_item p.contexts c.from.result Opening.Closed } in
+    let q : Parts = record p { pools = c.lose-lost.new.self; atomics = c.give_back.new.self; orders = c.finish-ended.new.self; stamps = c.leave-left.new.self; contexts = with_item p.contexts c.from.result Opening.Closed } in
     let count = lost-is p n c.lose-lost.result s c.lose-lost.ensures.answer in
     let stands : pools.Stands c.lose-lost.new.self (Lost n (length p.history.past) ∷ steps_of p) =
     subst (λ (m : ℕ). pools.Stands c.lose-lost.new.self (Lost n m ∷ steps_of p)) c.place-place.ensures
@@ -42,7 +42,7 @@ release-requires c =
           (end-stands p q n c.lose-lost.result c.args.cells s c.requires.may count stands
           (ap (λ (v : PoolState). v.pools) c.lose-lost.ensures.value) (ap (λ (v : PoolState). v.spare) c.lose-lost.ensures.value)
           (c.give_back.ensures p.declarations (atomic_steps p.declarations p.history.past) s.atomics)
-          (ap (λ (m : ℕ). slice_set p.contexts.items m Opening.Closed) c.from.ensures)
+          (ap (λ (m : ℕ). slice_set p.contexts.items m Opening.Closed) c.from.ensures) c.leave-left.ensures.events c.leave-left.ensures.contexts
           (is-ended p c.finish-ended.new.self n w c.finish-ended.result s (ends-context p n c.lose-lost.result c.args.cells s) c.finish-ended.ensures.answer c.finish-ended.ensures.stands
           c.finish-ended.ensures.same_shape)),
     )
@@ -54,6 +54,7 @@ let-in : (c : After-release)
       pools = c.lose-lost.new.self;
       atomics = c.give_back.new.self;
       orders = c.finish-ended.new.self;
+      stamps = c.leave-left.new.self;
       contexts = with_item c.args.self.now.contexts c.from.result Opening.Closed;
     }) c.args.core.0 (ending_acts c.args.self.now c.args.core.0 (end_of_context c.lose-lost.result c.args.cells)) []
 let-in c =
@@ -61,7 +62,7 @@ let-in c =
     let n = c.args.core.0 in
     let s = c.requires.stands in
     let w = end_of_context c.lose-lost.result c.args.cells in
-    let q : Parts = record p { pools = c.lose-lost.new.self; atomics = c.give_back.new.self; orders = c.finish-ended.new.self; contexts = with_item p.contexts c.from.result Opening.Closed } in
+    let q : Parts = record p { pools = c.lose-lost.new.self; atomics = c.give_back.new.self; orders = c.finish-ended.new.self; stamps = c.leave-left.new.self; contexts = with_item p.contexts c.from.result Opening.Closed } in
     let count = lost-is p n c.lose-lost.result s c.lose-lost.ensures.answer in
     let stands : pools.Stands c.lose-lost.new.self (Lost n (length p.history.past) ∷ steps_of p) =
     subst (λ (m : ℕ). pools.Stands c.lose-lost.new.self (Lost n m ∷ steps_of p)) c.place-place.ensures
@@ -70,7 +71,7 @@ let-in c =
     (end-stands p q n c.lose-lost.result c.args.cells s c.requires.may count stands
     (ap (λ (v : PoolState). v.pools) c.lose-lost.ensures.value) (ap (λ (v : PoolState). v.spare) c.lose-lost.ensures.value)
     (c.give_back.ensures p.declarations (atomic_steps p.declarations p.history.past) s.atomics)
-    (ap (λ (m : ℕ). slice_set p.contexts.items m Opening.Closed) c.from.ensures)
+    (ap (λ (m : ℕ). slice_set p.contexts.items m Opening.Closed) c.from.ensures) c.leave-left.ensures.events c.leave-left.ensures.contexts
     (is-ended p c.finish-ended.new.self n w c.finish-ended.result s (ends-context p n c.lose-lost.result c.args.cells s) c.finish-ended.ensures.answer c.finish-ended.ensures.stands
     c.finish-ended.ensures.same_shape))
 

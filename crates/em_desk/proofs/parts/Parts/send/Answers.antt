@@ -1,4 +1,4 @@
-use Rattle.std.proofs.Common.{◌≡◌, ◌∙◌, ◌<◌, [], ◌∷◌, ℕ, List, Option, length, refl, ap, sym, subst, arith, None, Some}
+use Rattle.std.proofs.Common.{◌≡◌, ◌∙◌, ◌<◌, [], ◌∷◌, ℕ, List, Option, length, refl, ap, sym, subst, arith, None, Some, slice_set}
 use Rattle.em_log.specs.declared.ask.Ask.{Ask}
 use Rattle.em_log.specs.declared.entry.Event.{Event}
 use Rattle.em_log.specs.declared.entry.What.{What}
@@ -20,6 +20,7 @@ use Rattle.em_pool.specs.declared.place.Spend.{Spend}
 use Rattle.em_pool.specs.State.{PoolState, event_at}
 use Rattle.em_desk.specs.declared.acts.Act.{Act}
 use Rattle.em_desk.specs.declared.parts.Parts.{Parts}
+use Rattle.em_desk.specs.declared.stamps.Stamps.{Stamps}
 use Rattle.em_desk.specs.Acts.{send_act, past_after, with_said}
 use Rattle.em_desk.specs.Histories.{HistoryState}
 use Rattle.em_desk.specs.Orders.{spend_by}
@@ -69,19 +70,20 @@ push-requires-clause-paid c =
     (rule-is p c.args.core.0 c.args.word None c.requires.stands c.in_default.ensures.answer))).paid
 
 -- the parts after the entry
-stood : (p : Parts) (n w place i : ℕ) (to : QueueId) (way : Way) (how : Spend) (number : Option ℕ) (act : Act) (h : HistoryState) (v : PoolState) (x : OrderState) → Stands p
+stood : (p : Parts) (n w place i : ℕ) (to : QueueId) (way : Way) (how : Spend) (number : Option ℕ) (act : Act) (h : HistoryState) (v : PoolState) (x : OrderState) (z : Stamps) → Stands p
     → MayAsk p.declarations p.history.past n (Ask.Send w to None) → rule p.history.past n w ≡ None → index_of w < event_total p.pools.pools
     → enters p.history.past (ticket_of_send p.history.past n (open_number p.history.past n)) ≡ is_entering way
     → ((s : List PoolStep) → pools.Stands p.pools s → pools.Stands v (Spent n w how place ∷ s)) → v ≡ spent p.pools w how place → place ≡ length p.history.past → how ≡ spend_by way to
     → ((s : List OrderStep) → order.Stands p.orders s → order.Stands x (Sent n (record { index = i; queue = to; core = record { 0 = n } }) ∷ s)) → i ≡ index_of w → shape x ≡ shape p.orders
     → ((e : Event) → event_at p.pools (index_of w) ≡ Some e → act ≡ send_act p.declarations e n w to) → h ≡ pushed p n (send_of w to number) → number ≡ open_number p.history.past n
-    → Releasing (record p { history = h; pools = v; orders = x }) n (sent_acts way act) 0
-stood p n w place i to way how number act h v x s may ok within on stands value at spends sent index same is pushed_now opened =
+    → z.events.items ≡ slice_set p.stamps.events.items i None → z.contexts.items ≡ p.stamps.contexts.items
+    → Releasing (record p { history = h; pools = v; orders = x; stamps = z }) n (sent_acts way act) 0
+stood p n w place i to way how number act h v x z s may ok within on stands value at spends sent index same is pushed_now opened unstamped contexts =
     let ours = is-ours p n w s ok in
     let event = event-is p w s ours in
-    let q : Parts = record p { pools = v; orders = x } in
-    subst (λ (h : HistoryState). Releasing (record p { history = h; pools = v; orders = x }) n (sent_acts way act) 0) (sym (pushed_now ∙ ap (λ (m : Option ℕ). pushed p n (send_of w to m)) opened))
-    (subst (λ (a : Act). Releasing (record p { history = pushed p n (send_of w to (open_number p.history.past n)); pools = v; orders = x }) n (sent_acts way a) 0) (sym (is ours.minter.event event))
+    let q : Parts = record p { pools = v; orders = x; stamps = z } in
+    subst (λ (h : HistoryState). Releasing (record p { history = h; pools = v; orders = x; stamps = z }) n (sent_acts way act) 0) (sym (pushed_now ∙ ap (λ (m : Option ℕ). pushed p n (send_of w to m)) opened))
+    (subst (λ (a : Act). Releasing (record p { history = pushed p n (send_of w to (open_number p.history.past n)); pools = v; orders = x; stamps = z }) n (sent_acts way a) 0) (sym (is ours.minter.event event))
     (send-begun p q n w to way ours.minter.event s may ok within (queue-declared p n w to may) event
     (record {
       goes = on;
@@ -90,6 +92,8 @@ stood p n w place i to way how number act h v x s may ok within on stands value 
       spare = ap (λ (v : PoolState). v.spare) value;
       orders = λ t older. subst (λ (j : ℕ). order.Stands x (Sent n (record { index = j; queue = to; core = record { 0 = n } }) ∷ t)) index (sent t older);
       order_shape = same;
+      stamps = unstamped ∙ ap (λ (j : ℕ). slice_set p.stamps.events.items j None) index;
+      contexts = contexts;
     })))
 
 -- it is held back
@@ -102,11 +106,11 @@ returns-in-Held-clause-stands c =
     let way = ap is_entering c.in-Held.is in
     at-rest _ n
     (stood p n c.args.word c.place-place.result c.index_of-index.result c.args.queue (Way.Held c.in-Held.field-0) c.spending.result c.open_number-ticket.result c.sending-act.result c.push.new.self
-    c.spend.new.self c.send-way.new.self s c.requires.may
+    c.spend.new.self c.send-way.new.self c.set.new.self s c.requires.may
     (rule-is p n c.args.word None s c.in_default.ensures.answer) c.in_default.ensures.within
     (goes p n (Ask.Send c.args.word c.args.queue None) c.send-way.result s c.requires.may c.send-way.ensures.answer ∙ way) c.spend.ensures.stands c.spend.ensures.value c.place-place.ensures
     (c.spending.ensures ∙ ap (λ (w : Way). spend_by w c.args.queue) c.in-Held.is) c.send-way.ensures.stands c.index_of-index.ensures c.send-way.ensures.same_shape
-    c.sending-act.ensures c.push.ensures (number-open p n c.open_number-ticket.result s c.open_number-ticket.ensures))
+    c.sending-act.ensures c.push.ensures (number-open p n c.open_number-ticket.result s c.open_number-ticket.ensures) c.set.ensures.events c.set.ensures.contexts)
 
 pub returns-in-Held-clause-adds : goal.returns-in-Held-clause-adds
 returns-in-Held-clause-adds c =
@@ -140,12 +144,12 @@ perform-requires c =
       [],
       0,
       stood p n c.args.word c.place-place.result c.index_of-index.result c.args.queue Way.Enter c.spending.result c.open_number-ticket.result c.sending-act.result c.push.new.self
-          c.spend.new.self c.send-way.new.self s c.requires.may
+          c.spend.new.self c.send-way.new.self c.set.new.self s c.requires.may
           (rule-is p n c.args.word None s c.in_default.ensures.answer) c.in_default.ensures.within
           (goes p n (Ask.Send c.args.word c.args.queue None) c.send-way.result s c.requires.may c.send-way.ensures.answer ∙ ap is_entering way) c.spend.ensures.stands c.spend.ensures.value
           c.place-place.ensures
           (c.spending.ensures ∙ ap (λ (w : Way). spend_by w c.args.queue) way) c.send-way.ensures.stands c.index_of-index.ensures c.send-way.ensures.same_shape
-          c.sending-act.ensures c.push.ensures (number-open p n c.open_number-ticket.result s c.open_number-ticket.ensures),
+          c.sending-act.ensures c.push.ensures (number-open p n c.open_number-ticket.result s c.open_number-ticket.ensures) c.set.ensures.events c.set.ensures.contexts,
     )
 
 pub returns-clause-stands : goal.returns-clause-stands
@@ -156,12 +160,12 @@ returns-clause-stands c =
     let way = enter-is c.send-way.result c.in_default-way.not-Held in
     at-rest c.perform.new.self n (c.perform.ensures.stands [] [] 0
     (stood p n c.args.word c.place-place.result c.index_of-index.result c.args.queue Way.Enter c.spending.result c.open_number-ticket.result c.sending-act.result c.push.new.self
-    c.spend.new.self c.send-way.new.self s c.requires.may
+    c.spend.new.self c.send-way.new.self c.set.new.self s c.requires.may
     (rule-is p n c.args.word None s c.in_default.ensures.answer) c.in_default.ensures.within
     (goes p n (Ask.Send c.args.word c.args.queue None) c.send-way.result s c.requires.may c.send-way.ensures.answer ∙ ap is_entering way) c.spend.ensures.stands c.spend.ensures.value
     c.place-place.ensures
     (c.spending.ensures ∙ ap (λ (w : Way). spend_by w c.args.queue) way) c.send-way.ensures.stands c.index_of-index.ensures c.send-way.ensures.same_shape
-    c.sending-act.ensures c.push.ensures (number-open p n c.open_number-ticket.result s c.open_number-ticket.ensures)))
+    c.sending-act.ensures c.push.ensures (number-open p n c.open_number-ticket.result s c.open_number-ticket.ensures) c.set.ensures.events c.set.ensures.contexts))
 
 -- one act is all that follows
 one-act : (n : ℕ) (o : Option What) (past : Past) → past_after n o past ≡ onto (entries_by n (with_said o [])) past
