@@ -28,7 +28,7 @@ const FOUR_CORES: &str =
     "cores 4\npool p 4 0\neo x running\nqueue q parallel x normal all\nboot\nrepeat 4\nalloc v0 p 1\nsend v0 q\nend\nend\nbody x receive\nfree me\nend\ndone\n";
 
 /// The words, the script, the status, and the whole text that is written.
-const ROWS: [(&str, &str, u8, &str); 15] = [
+const ROWS: [(&str, &str, u8, &str); 24] = [
     ("run 10 1", ONE_EVENT, 0, ONE_EVENT_RUN),
     ("run 10000 1", ONE_EVENT, 0, ONE_EVENT_RUN),
     ("run 1 1", ONE_EVENT, 0, ONE_EVENT_RUN),
@@ -49,6 +49,15 @@ const ROWS: [(&str, &str, u8, &str); 15] = [
     ("run 10 01", ONE_EVENT, 2, "words not known\n"),
     ("-h", ONE_EVENT, 2, "words not known\n"),
     ("", ONE_EVENT, 2, "words not known\n"),
+    ("help", ONE_EVENT, 2, "words not known\n"),
+    ("--help", ONE_EVENT, 2, "words not known\n"),
+    ("check x", ONE_EVENT, 2, "words not known\n"),
+    ("solo help 1 0", ONE_EVENT, 2, "words not known\n"),
+    ("solo 10 1 0 0", ONE_EVENT, 2, "words not known\n"),
+    ("solo 10 1 -0", ONE_EVENT, 2, "words not known\n"),
+    ("gen 0", ONE_EVENT, 2, "words not known\n"),
+    ("gen 41", ONE_EVENT, 2, "words not known\n"),
+    ("gen 01", ONE_EVENT, 2, "words not known\n"),
 ];
 
 /// The status of a call, and what it writes.
